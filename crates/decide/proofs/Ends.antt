@@ -1,0 +1,84 @@
+-- An entry at the end of a table, by the tests that the code makes. Assumes nothing.
+use mathlib.Core.Path.{_≡_, refl, sym, ap, _∙_}
+use Prim.Native.Nat.{ℕ, _+_, _-_, _*_, _≤_, _<_}
+use native.Mathlib.Omega.{arith}
+use mathlib.Core.Bool.{Bool, true, false, not}
+use mathlib.Core.List.{List, [], _∷_}
+use lib.ListN.{length}
+use lib.Dec.{leb, eqb, eqb·suc-zero}
+use lib.Ieee.{Float, eq}
+use borrow.Author.Tests.{not-true, not-false}
+use Rattle.areas.specs.Area.{entries, room, write, put, part, matches}
+use Rattle.areas.proofs.Tables.{length-entries, last-entry, write-one}
+use Rattle.decide.specs.declared.append.Append.{Append}
+use Rattle.decide.specs.declared.append.Append.the-variants.{Kept, Grew, Full}
+use Rattle.decide.specs.Append.{final, fate, areaThen, Ended, ended}
+
+-- the last entry in use, by its place
+pub final-is : {A : Type 0} (w n : ℕ) (l : List A) → 0 < n → final (entries w n l) ≡ part l ((n - 1) * w) w
+final-is w n l h = rw (length-entries w n l) (last-entry w n l h)
+
+-- a table with no entry in use has no last one
+pub final-none : (w n : ℕ) (l e : List Float) → n ≡ 0 → eqb (length e) 0 ≡ matches eq (final (entries w n l)) e
+unfolding matches
+final-none w n l [] h = rw h
+final-none w n l (x ∷ e) h = rw h (eqb·suc-zero (length e))
+
+-- what a comparison at the last entry's place tells
+pub final-same : (w n p : ℕ) (l e : List Float) (r : Bool) → 0 < n → length e ≡ w → p ≡ (n - 1) * w → r ≡ matches eq (part l p (length e)) e → r ≡ matches eq (final (entries w n l)) e
+final-same w n p l e r h we at s = s ∙ rw (at, we, final-is w n l h)
+
+-- the three ends, by what the code's calls answered: s whether the last entry is the same, h whether m entries are room enough
+module _ (w n : ℕ) (e l : List Float) (s : Bool) (told : s ≡ matches eq (final (entries w n l)) e) where
+  pub kept : s ≡ true → record { how = Kept; area = l } ≡ ended w n e l
+  unfolding ended fate areaThen
+  kept y = rw (← told, y)
+
+  module _ (no : s ≡ false) (m : ℕ) (h : Bool) (room-is : m ≡ room w (length l)) (holds-is : h ≡ leb (n + 1) m) where
+    pub full : not h ≡ true → record { how = Full; area = l } ≡ ended w n e l
+    unfolding ended fate areaThen
+    full f = rw (← told, no, ← room-is, ← holds-is, not-true h f)
+
+    pub grew : not h ≡ false → (p : ℕ) (a : List Float) → p ≡ n * w → a ≡ put l p e → record { how = Grew; area = a } ≡ ended w n e l
+    unfolding ended fate areaThen
+    grew f p a at put-is = rw (← told, no, ← room-is, ← holds-is, not-false h f, write-one w n e l, ← at, ← put-is)
+
+fate-kept : (s r : Bool) → fate s r ≡ Kept → s ≡ true
+unfolding fate
+fate-kept true r e = refl
+fate-kept false true e = cc
+fate-kept false false e = cc
+
+fate-grew : (s r : Bool) → fate s r ≡ Grew → (s ≡ false) × (r ≡ true)
+unfolding fate
+fate-grew true r e = (cc, cc)
+fate-grew false true e = (refl, refl)
+fate-grew false false e = (refl, cc)
+
+fate-full : (s r : Bool) → fate s r ≡ Full → (s ≡ false) × (r ≡ false)
+unfolding fate
+fate-full true r e = (cc, cc)
+fate-full false true e = (refl, cc)
+fate-full false false e = (refl, refl)
+
+-- what a caller learns from each end: whether the last entry is the same, whether there is room, and the area then
+module _ (w n : ℕ) (e l : List Float) (r : Append) (a : List Float) (did : record { how = r; area = a } ≡ ended w n e l) where
+  how : fate (matches eq (final (entries w n l)) e) (leb (n + 1) (room w (length l))) ≡ r
+  unfolding ended
+  how = sym (ap (λ (x : Ended). x .how) did)
+
+  area-by : (k : Append) → r ≡ k → a ≡ areaThen k w n e l
+  unfolding ended
+  area-by k q = ap (λ (x : Ended). x .area) did ∙ ap (λ (x : Append). areaThen x w n e l) (how ∙ q)
+
+  pub ended-kept : r ≡ Kept → (matches eq (final (entries w n l)) e ≡ true) × (a ≡ l)
+  unfolding areaThen
+  ended-kept q = (fate-kept _ (leb (n + 1) (room w (length l))) (how ∙ q), area-by Kept q)
+
+  pub ended-grew : r ≡ Grew → (matches eq (final (entries w n l)) e ≡ false) × (leb (n + 1) (room w (length l)) ≡ true) × (a ≡ write w n (e ∷ []) l)
+  unfolding areaThen
+  ended-grew q = let f = fate-grew _ _ (how ∙ q) in (f .0, f .1, area-by Grew q)
+
+  pub ended-full : r ≡ Full → (matches eq (final (entries w n l)) e ≡ false) × (leb (n + 1) (room w (length l)) ≡ false) × (a ≡ l)
+  unfolding areaThen
+  ended-full q = let f = fate-full _ _ (how ∙ q) in (f .0, f .1, area-by Full q)

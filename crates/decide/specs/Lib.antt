@@ -1,0 +1,3 @@
+pub mod Append
+pub mod Family
+pub mod Stack

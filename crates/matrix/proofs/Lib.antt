@@ -1,0 +1,2 @@
+pub mod Believe
+pub mod Constants

@@ -1,0 +1,40 @@
+-- `matrix::clip::screen` meets its contract. Assumes nothing.
+use borrow.Author.Needs.{needs}
+use Rattle.matrix.specs.Clip.{screenOf}
+use Rattle.matrix.proofs.Constants.{k64}
+use Rattle.matrix.proofs.clip.screen.Statement.{statement}
+use Rattle.matrix.proofs.clip.screen.Tie as tie
+
+array-read-f64-from-f32 : tie.Need-array-read-f64-from-f32
+array-read-f64-from-f32 c = search needs
+
+f64-from-f32-requires : tie.Need-f64-from-f32-requires
+f64-from-f32-requires c κs = search needs
+
+array-read-f64-from-f32-2 : tie.Need-array-read-f64-from-f32-2
+array-read-f64-from-f32-2 c = search needs
+
+f64-from-f32-requires-2 : tie.Need-f64-from-f32-requires-2
+f64-from-f32-requires-2 c κs = search needs
+
+f64-from-f32-requires-3 : tie.Need-f64-from-f32-requires-3
+f64-from-f32-requires-3 c κs = search needs
+
+f64-from-f32-requires-4 : tie.Need-f64-from-f32-requires-4
+f64-from-f32-requires-4 c κs = search needs
+
+returns : tie.Need-returns
+unfolding screenOf
+returns c = cc k64
+
+pub screen-spec : {M : Type 1} → statement M
+screen-spec =
+    tie.close
+    (tie.spec
+    array-read-f64-from-f32
+    f64-from-f32-requires
+    array-read-f64-from-f32-2
+    f64-from-f32-requires-2
+    f64-from-f32-requires-3
+    f64-from-f32-requires-4
+    returns)

@@ -1,0 +1,14 @@
+pub mod Values
+pub mod Quotients
+pub mod Losses
+pub mod Parts
+pub mod Halves
+pub mod Bounded
+pub mod Inverse
+pub mod Root
+pub mod Rooted
+pub mod Turns
+pub mod Small
+pub mod Ends
+pub mod Steps
+pub mod Believe
