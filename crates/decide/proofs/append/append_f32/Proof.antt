@@ -2,55 +2,37 @@ use Rattle.decide.proofs.Ends.{kept, full, grew}
 use borrow.Author.Needs.{needs}
 use Rattle.decide.proofs.append.append_f32.Statement.{statement}
 use Rattle.decide.proofs.append.append_f32.Tie as tie
-use Rattle.decide.proofs.append.append_f32.Reads as reads
-use Rattle.decide.proofs.append.append_f32.Lts as lts
-use Rattle.areas.proofs.place.Reads as place-reads
-use Rattle.areas.proofs.put_f32.Reads as put-f32-reads
-use Rattle.areas.proofs.room_of.Reads as room-of-reads
-use Rattle.decide.proofs.append.last_is.Reads as last-is-reads
-use Rattle.decide.proofs.judge.holds.Reads as holds-reads
 
--- src/append.rt:32:8
 last-is-requires : tie.Need-last-is-requires
 last-is-requires c κs = search needs
 
--- src/append.rt:33:9
 same-length : tie.Need-same-length
 same-length c = search needs
 
--- src/append.rt:33:9
 returns : tie.Need-returns
 returns c = kept _ _ _ _ _ (c .before .last-is .ensures) (c .if1 .taken)
 
--- src/append.rt:35:38
 room-of-requires : tie.Need-room-of-requires
 room-of-requires c κs = search needs
 
--- src/append.rt:35:9
 holds-requires : tie.Need-holds-requires
 holds-requires c κs = search needs
 
--- src/append.rt:36:9
 same-length-2 : tie.Need-same-length-2
 same-length-2 c = search needs
 
--- src/append.rt:36:9
 returns-2 : tie.Need-returns-2
 returns-2 c = let d = c .before .before .before in full _ _ _ _ _ (d .before .last-is .ensures) (d .if1 .left) _ _ (c .before .before .room-of .ensures) (c .before .holds .ensures) (c .if2 .taken)
 
--- src/append.rt:38:28
 place-requires : tie.Need-place-requires
 place-requires c κs = search needs
 
--- src/append.rt:38:5
 put-f32-requires : tie.Need-put-f32-requires
 put-f32-requires c κs = search needs
 
--- src/append.rt:28:1
 same-length-3 : tie.Need-same-length-3
 same-length-3 c = search needs
 
--- src/append.rt:28:1
 returns-3 : tie.Need-returns-3
 returns-3 c =
     let d = c .before .before .before .before .before in

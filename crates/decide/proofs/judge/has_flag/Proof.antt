@@ -2,18 +2,13 @@ use Rattle.decide.proofs.Rules.{no-flag}
 use borrow.Author.Needs.{needs}
 use Rattle.decide.proofs.judge.has_flag.Statement.{statement}
 use Rattle.decide.proofs.judge.has_flag.Tie as tie
-use Rattle.decide.proofs.judge.has_flag.Reads as reads
-use Rattle.decide.proofs.judge.has_flag.Lts as lts
 
--- src/judge.rt:25:32
 div-result : tie.Need-div-result
 div-result c = search needs
 
--- src/judge.rt:22:1
 returns : tie.Need-returns
 returns c = no-flag _ _ (c .if1 .taken)
 
--- src/judge.rt:22:1
 returns-2 : tie.Need-returns-2
 returns-2 c = search needs
 

@@ -1,14 +1,10 @@
 use Rattle.decide.proofs.Rules.{reaches-in, reaches-past}
 use Rattle.decide.proofs.judge.reaches.Statement.{statement}
 use Rattle.decide.proofs.judge.reaches.Tie as tie
-use Rattle.decide.proofs.judge.reaches.Reads as reads
-use Rattle.decide.proofs.judge.reaches.Lts as lts
 
--- src/judge.rt:8:1
 returns : tie.Need-returns
 returns c = reaches-in _ _ _ (c .if1 .taken)
 
--- src/judge.rt:8:1
 returns-2 : tie.Need-returns-2
 returns-2 c = reaches-past _ _ _ (c .if1 .left)
 

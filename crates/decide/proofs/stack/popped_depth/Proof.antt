@@ -2,18 +2,13 @@ use Rattle.decide.proofs.Rules.{popped-some, popped-all}
 use borrow.Author.Needs.{needs}
 use Rattle.decide.proofs.stack.popped_depth.Statement.{statement}
 use Rattle.decide.proofs.stack.popped_depth.Tie as tie
-use Rattle.decide.proofs.stack.popped_depth.Reads as reads
-use Rattle.decide.proofs.stack.popped_depth.Lts as lts
 
--- src/stack.rt:26:24
 sub-result : tie.Need-sub-result
 sub-result c = search needs
 
--- src/stack.rt:23:1
 returns : tie.Need-returns
 returns c = popped-some _ _ (c .if1 .taken)
 
--- src/stack.rt:23:1
 returns-2 : tie.Need-returns-2
 returns-2 c = popped-all _ _ (c .if1 .left)
 

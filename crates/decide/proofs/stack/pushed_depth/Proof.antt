@@ -3,18 +3,13 @@ use Prim.Native.Nat.{_<_}
 use native.Mathlib.Omega.{arith}
 use Rattle.decide.proofs.stack.pushed_depth.Statement.{statement}
 use Rattle.decide.proofs.stack.pushed_depth.Tie as tie
-use Rattle.decide.proofs.stack.pushed_depth.Reads as reads
-use Rattle.decide.proofs.stack.pushed_depth.Lts as lts
 
--- src/stack.rt:19:30
 add-result : tie.Need-add-result
 add-result c = let h : c .before .args .depth < 32 = push-room (c .before .args .push) (c .before .args .depth) (c .if1 .taken) in omega arith
 
--- src/stack.rt:16:1
 returns : tie.Need-returns
 returns c = push-taken _ _ (c .if1 .taken)
 
--- src/stack.rt:16:1
 returns-2 : tie.Need-returns-2
 returns-2 c = push-dropped _ _ (c .if1 .left)
 

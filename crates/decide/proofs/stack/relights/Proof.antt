@@ -2,19 +2,13 @@ use Rattle.decide.specs.Stack.{relit}
 use borrow.Author.Needs.{needs}
 use Rattle.decide.proofs.stack.relights.Statement.{statement}
 use Rattle.decide.proofs.stack.relights.Tie as tie
-use Rattle.decide.proofs.stack.relights.Reads as reads
-use Rattle.decide.proofs.stack.relights.Lts as lts
-use Rattle.decide.proofs.judge.has_flag.Reads as has-flag-reads
 
--- src/stack.rt:55:5
 has-flag-requires : tie.Need-has-flag-requires
 has-flag-requires c κs = search needs
 
--- src/stack.rt:55:45
 has-flag-requires-2 : tie.Need-has-flag-requires-2
 has-flag-requires-2 c κs = search needs
 
--- src/stack.rt:52:1
 returns : tie.Need-returns
 unfolding relit
 returns c = rw (c .before .has-flag .ensures, c .has-flag2 .ensures)

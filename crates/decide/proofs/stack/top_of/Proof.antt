@@ -2,51 +2,37 @@ use Rattle.matrix.specs.Math.{rows}
 use borrow.Author.Needs.{needs}
 use Rattle.decide.proofs.stack.top_of.Statement.{statement}
 use Rattle.decide.proofs.stack.top_of.Tie as tie
-use Rattle.decide.proofs.stack.top_of.Reads as reads
-use Rattle.decide.proofs.stack.top_of.Lts as lts
-use Rattle.decide.proofs.stack.four_of.Reads as four-of-reads
 
--- src/stack.rt:47:21
 sub-at : tie.Need-sub-at
 sub-at c = search needs
 
--- src/stack.rt:47:20
 cast-at : tie.Need-cast-at
 cast-at c = search needs
 
--- src/stack.rt:47:14
 mul-at : tie.Need-mul-at
 mul-at c = search needs
 
--- src/stack.rt:49:9
 four-of-requires : tie.Need-four-of-requires
 four-of-requires c κs = search needs
 
--- src/stack.rt:50:24
 add-four-of : tie.Need-add-four-of
 add-four-of c = search needs
 
--- src/stack.rt:50:9
 four-of-requires-2 : tie.Need-four-of-requires-2
 four-of-requires-2 c κs = search needs
 
--- src/stack.rt:51:24
 add-four-of-2 : tie.Need-add-four-of-2
 add-four-of-2 c = search needs
 
--- src/stack.rt:51:9
 four-of-requires-3 : tie.Need-four-of-requires-3
 four-of-requires-3 c κs = search needs
 
--- src/stack.rt:52:24
 add-four-of-3 : tie.Need-add-four-of-3
 add-four-of-3 c = search needs
 
--- src/stack.rt:52:9
 four-of-requires-4 : tie.Need-four-of-requires-4
 four-of-requires-4 c κs = search needs
 
--- src/stack.rt:43:1
 returns : tie.Need-returns
 unfolding rows
 returns c = cc

@@ -1,0 +1,36 @@
+-- A plan that appends an entry to one table unless the last entry equals it, by what became of the entry. Assumes nothing.
+use mathlib.Core.Path.{_≡_}
+use Prim.Native.Nat.{ℕ, _≤_}
+use mathlib.Core.List.{List, [], _∷_}
+use lib.ListN.{length}
+use lib.Ieee.{Float}
+use Rattle.areas.specs.Area.{room}
+use Rattle.decide.specs.Append.{ended}
+use Rattle.decide.specs.declared.append.Append.{Append}
+use Rattle.decide.specs.declared.append.Append.the-variants.{Kept, Grew, Full}
+use Rattle.decide.proofs.Ends.{ended-kept, ended-grew, ended-full}
+use Rattle.stage.specs.declared.State.{State}
+use Rattle.stage.specs.declared.Counts.{Counts}
+use Rattle.stage.specs.declared.Answer.the-variants.{Done, NoRoom}
+use Rattle.stage.specs.With.{withCounts}
+use Rattle.stage.specs.Plan.{Edit, keep, grow, Edits, does, table, after, appending, advance, outcome, settle}
+use Rattle.stage.proofs.Appends.{append-kept, append-grew, append-full}
+
+-- Table k, of n entries of w numbers in the area l, gets the entry e; E places its edit among those of the tables, and t is the state then.
+-- r and a are what `append_f32` answered and left in the area.
+module _ (k w n : ℕ) (E : Edit (List Float) → Edits) (g : Counts → Edits → List Float → List Float) (s t : State) (e l : List Float) (r : Append) (a : List Float)
+    (did : record { how = r; area = a } ≡ ended w n e l)
+    (place : (d : Edit (List Float)) → g (s .counts) (E d) l ≡ after w n d l) where
+  pub entry-kept : r ≡ Kept → n ≤ room w (length l)
+      → outcome (record { state = withCounts t (advance (E keep) (s .counts)); answer = Done }) a ≡ settle g (appending k (table w n l) e (λ d. does [] t (E d))) s l
+  unfolding settle
+  entry-kept q h = let x = ended-kept w n e l r a did q in rw (append-kept k w n l e (λ d. does [] t (E d)) (x .0) h, x .1, place keep)
+
+  pub entry-grew : r ≡ Grew
+      → outcome (record { state = withCounts t (advance (E (grow (e ∷ []))) (s .counts)); answer = Done }) a ≡ settle g (appending k (table w n l) e (λ d. does [] t (E d))) s l
+  unfolding settle
+  entry-grew q = let x = ended-grew w n e l r a did q in rw (append-grew k w n l e (λ d. does [] t (E d)) (x .0) (x .1), x .2, place (grow (e ∷ [])))
+
+  pub entry-full : r ≡ Full → outcome (record { state = s; answer = NoRoom k }) a ≡ settle g (appending k (table w n l) e (λ d. does [] t (E d))) s l
+  unfolding settle
+  entry-full q = let x = ended-full w n e l r a did q in rw (append-full k w n l e (λ d. does [] t (E d)) (x .0) (x .1), x .2)

@@ -1,0 +1,46 @@
+-- A matrix taken as projection or as top of the stack keeps the depth in its range. Assumes nothing.
+use mathlib.Core.Path.{_≡_, refl, sym, subst}
+use Prim.Native.Nat.{ℕ, _+_, _≤_, _<_}
+use native.Mathlib.Omega.{arith}
+use mathlib.Core.Bool.{Bool, true, false, _&&_, cond, false≢true}
+use mathlib.Core.List.{List}
+use lib.Dec.{leb, ltb}
+use lib.Ieee.{Float}
+use borrow.Author.Tests.{leb-true, ltb-true}
+use Rattle.areas.specs.Area.{room}
+use Rattle.decide.specs.Stack.{pushed, popped}
+use Rattle.stage.specs.declared.State.{State}
+use Rattle.stage.specs.Plan.{pick}
+use Rattle.stage.specs.Matrices.{turned}
+
+-- a depth of the stack
+abbrev pub InStack : ℕ → Type 0
+InStack d = (1 ≤ d) × (d ≤ 32)
+
+pub pushed-in : (push : Bool) (d : ℕ) → InStack d → InStack (pushed push d)
+unfolding pushed
+pushed-in push d h = go (push && ltb d 32) refl
+  where
+    right : (a b : Bool) → a && b ≡ true → b ≡ true
+    right true b e = e
+    right false b e = absurd (false≢true e)
+
+    go : (b : Bool) → push && ltb d 32 ≡ b → InStack (cond b (d + 1) d)
+    go true e = let l : d < 32 = ltb-true d 32 (right push (ltb d 32) e) in omega arith
+    go false e = h
+
+pub turned-in : (push load projection : Bool) (s next : State) (m : List (List Float)) → next ≡ turned push load projection s m → InStack (s .depth) → InStack (next .depth)
+unfolding turned pick
+turned-in push load true s next m e h = subst (λ (t : State). InStack (t .depth)) (sym e) h
+turned-in push load false s next m e h = subst (λ (t : State). InStack (t .depth)) (sym e) (pushed-in push (s .depth) h)
+
+-- what refusal 8 lets through: the entries in use have room
+pub in-room : (w n m len : ℕ) (r : Bool) → m ≡ room w len → r ≡ leb (n + 0) m → leb (n + 0) m ≡ true → n ≤ room w len
+in-room w n m len r e h t = let k : n + 0 ≤ m = leb-true (n + 0) m t in rw (← e) (omega arith)
+
+pub pushed-low : (push : Bool) (d r : ℕ) → r ≡ pushed push d → InStack d → 1 ≤ r
+pushed-low push d r e h = subst (λ (k : ℕ). 1 ≤ k) (sym e) (pushed-in push d h .0)
+
+pub popped-in : (count d r : ℕ) → r ≡ popped count d → InStack d → InStack r
+unfolding popped
+popped-in count d r e h = omega arith

@@ -1,0 +1,6 @@
+pub mod Answers
+pub mod Matrices
+pub mod Opening
+pub mod Plan
+pub mod Sound
+pub mod With

@@ -1,0 +1,163 @@
+-- The vocabulary in which the meaning of each command is said: a plan, made of the state, of what is in use of the lent tables and of the
+-- arguments alone, and what the state, the answer and the areas are after it. Definitions only.
+use Prim.Native.Nat.{ℕ, _+_}
+use mathlib.Core.Bool.{Bool, true, false}
+use mathlib.Core.List.{List, [], _∷_}
+use lib.ListN.{length}
+use lib.IntN.{ℤ}
+use lib.Dec.{leb}
+use lib.Ieee.{Float, eq}
+use Rattle.areas.specs.Area.{entries, room, write, matches}
+use Rattle.decide.specs.Append.{final}
+use Rattle.stage.specs.declared.State.{State}
+use Rattle.stage.specs.declared.Counts.{Counts}
+use Rattle.stage.specs.declared.Answered.{Answered}
+use Rattle.stage.specs.Answers.{number, values}
+use Rattle.stage.specs.With.{withCounts}
+
+-- ---- tables
+
+-- a lent table: its entries in use, and how many it has room for
+pub record Table (E : Type 0) : Type 0 where
+  pub used : List E
+  pub room : ℕ
+
+-- the table of n entries in use, of w numbers each, in the area l
+abbrev pub table : {A : Type 0} → ℕ → ℕ → List A → Table (List A)
+table w n l = record { used = entries w n l; room = room w (length l) }
+
+-- what a command does to a table: nothing, entries appended, or entry i replaced
+pub data Edit (E : Type 0) : Type 0 where
+  keep : Edit E
+  grow : List E → Edit E
+  patch : ℕ → E → Edit E
+
+-- an entry of table 7: 9 f32 and 10 u32
+pub record Row : Type 0 where
+  pub floats : List Float
+  pub words : List ℕ
+
+-- what a command does to each table, 1 to 9
+pub record Edits : Type 0 where
+  pub matrices : Edit (List Float)
+  pub viewports : Edit (List Float)
+  pub scales : Edit (List Float)
+  pub lights : Edit (List Float)
+  pub lookats : Edit (List Float)
+  pub fogs : Edit (List ℤ)
+  pub rows : Edit Row
+  pub indices : Edit (List ℕ)
+  pub runs : Edit (List ℕ)
+
+-- ---- plans
+
+-- a refusal, by number and values; or done, with the values told, the new state but for its counts, and what the tables get
+pub data Plan : Type 0 where
+  refuse : ℕ → List ℕ → Plan
+  does : List ℕ → State → Edits → Plan
+
+-- the refusal where the test fails, else what comes after
+unfoldable pub unless : Bool → ℕ → List ℕ → Plan → Plan
+unless true n vs p = p
+unless false n vs p = refuse n vs
+
+-- one of two, by a test
+unfoldable pub pick : {A : Type 0} → Bool → A → A → A
+pick true x y = x
+pick false x y = y
+
+-- how many entries an edit appends
+abbrev pub more : {E : Type 0} → Edit E → ℕ
+more keep = 0
+more (grow es) = length es
+more (patch i e) = 0
+
+-- a table as refusals 8 and 9 judge it: its number, entries in use, entries to be appended, room
+pub record Lent : Type 0 where
+  pub number : ℕ
+  pub used : ℕ
+  pub more : ℕ
+  pub room : ℕ
+
+abbrev pub lent : {E : Type 0} → ℕ → Table E → Edit E → Lent
+lent k t e = record { number = k; used = length (t .used); more = more e; room = t .room }
+
+-- refusal n with the first table, the lowest, that has less room than what it is to hold
+abbrev pub judge : ℕ → List Lent → Plan → Plan
+judge n [] p = p
+judge n (t ∷ ts) p = unless (leb (t .used + t .more) (t .room)) n (t .number ∷ []) (judge n ts p)
+
+-- the entry e appended, unless the last entry compares equal to it: zeros of either sign are equal, a NaN never is
+unfoldable pub appended : Table (List Float) → List Float → Edit (List Float)
+appended t e = pick (matches eq (final (t .used)) e) keep (grow (e ∷ []))
+
+-- table k gets the entry so, or refusal 9; p is what is planned with that edit
+unfoldable pub appending : ℕ → Table (List Float) → List Float → (Edit (List Float) → Plan) → Plan
+appending k t e p = judge 9 (lent k t (appended t e) ∷ []) (p (appended t e))
+
+-- refusal 7 where the bytes from place at on are fewer than needed
+abbrev pub needs : ℕ → ℕ → List ℕ → Plan → Plan
+needs n at bytes p = unless (leb (at + n) (length bytes)) 7 (n ∷ []) p
+
+-- ---- outcomes
+
+-- the count of a table after an edit
+abbrev pub counted : {E : Type 0} → Edit E → ℕ → ℕ
+counted keep n = n
+counted (grow es) n = n + length es
+counted (patch i e) n = n
+
+-- all counts after a command's edits: they are the lengths of what is in use
+abbrev pub advance : Edits → Counts → Counts
+advance e c =
+    record {
+      matrices = counted (e .matrices) (c .matrices);
+      viewports = counted (e .viewports) (c .viewports);
+      scales = counted (e .scales) (c .scales);
+      lights = counted (e .lights) (c .lights);
+      lookats = counted (e .lookats) (c .lookats);
+      fogs = counted (e .fogs) (c .fogs);
+      rows = counted (e .rows) (c .rows);
+      indices = counted (e .indices) (c .indices);
+      runs = counted (e .runs) (c .runs);
+    }
+
+-- an area of which n entries of w numbers are in use, after an edit; a number that no rule names stays
+abbrev pub after : {A : Type 0} → ℕ → ℕ → Edit (List A) → List A → List A
+after w n keep l = l
+after w n (grow es) l = write w n es l
+after w n (patch i e) l = write w i (e ∷ []) l
+
+-- what a command hands back, the answer by number and values, and what its areas hold then
+pub record Outcome (A : Type 0) : Type 0 where
+  pub state : State
+  pub number : ℕ
+  pub values : List ℕ
+  pub areas : A
+
+abbrev pub outcome : {A : Type 0} → Answered → A → Outcome A
+outcome r l = record { state = r .state; number = number (r .answer); values = values (r .answer); areas = l }
+
+-- what a plan comes to, for the state s and the areas l; f says how edits change those areas. A refusal changes nothing
+unfoldable pub settle : {A : Type 0} → (Counts → Edits → A → A) → Plan → State → A → Outcome A
+settle f (refuse n vs) s l = record { state = s; number = n; values = vs; areas = l }
+settle f (does vs t e) s l = record { state = withCounts t (advance e (s .counts)); number = 0; values = vs; areas = f (s .counts) e l }
+
+-- the areas of a command that is lent none
+abbrev pub nothing : Counts → Edits → Unit {0} → Unit {0}
+nothing c e l = l
+
+-- no table changes
+abbrev pub untouched : Edits
+untouched =
+    record {
+      matrices = keep;
+      viewports = keep;
+      scales = keep;
+      lights = keep;
+      lookats = keep;
+      fogs = keep;
+      rows = keep;
+      indices = keep;
+      runs = keep;
+    }

@@ -1,0 +1,36 @@
+-- The state's own numbers: what refusal 10 asks of them, before anything else is looked at.
+use mathlib.Core.Bool.{Bool, true, _&&_}
+use mathlib.Core.List.{List, [], _∷_}
+use lib.Dec.{leb}
+use Rattle.stage.specs.declared.State.{State}
+use Rattle.stage.specs.declared.Counts.{Counts}
+use Rattle.stage.specs.Plan.{Plan, unless}
+
+-- each of the tests holds
+unfoldable pub all : List Bool → Bool
+all [] = true
+all (b ∷ bs) = b && all bs
+
+-- table counts to 1,048,576, from 1 in tables 1 and 2
+abbrev pub countTests : Counts → List Bool
+countTests c =
+    leb 1 (c .matrices)
+    ∷ leb (c .matrices) 1048576
+    ∷ leb 1 (c .viewports)
+    ∷ leb (c .viewports) 1048576
+    ∷ leb (c .scales) 1048576
+    ∷ leb (c .lights) 1048576
+    ∷ leb (c .lookats) 1048576
+    ∷ leb (c .fogs) 1048576
+    ∷ leb (c .rows) 1048576
+    ∷ leb (c .indices) 1048576
+    ∷ leb (c .runs) 1048576
+    ∷ []
+
+-- opened, stack depth 1 to 32, light number 0 to 7, table counts
+unfoldable pub stateSound : State → Bool
+stateSound s = all (s .opened ∷ leb 1 (s .depth) ∷ leb (s .depth) 32 ∷ leb (s .lights .number) 7 ∷ countTests (s .counts))
+
+-- refusal 10 for the state's own numbers, else what comes after
+abbrev pub sound : State → Plan → Plan
+sound s p = unless (stateSound s) 10 [] p
