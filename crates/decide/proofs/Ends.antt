@@ -11,7 +11,7 @@ use Rattle.areas.specs.Area.{entries, room, write, put, part, matches}
 use Rattle.areas.proofs.Tables.{length-entries, last-entry, write-one}
 use Rattle.decide.specs.declared.append.Append.{Append}
 use Rattle.decide.specs.declared.append.Append.the-variants.{Kept, Grew, Full}
-use Rattle.decide.specs.Append.{final, fate, areaThen, Ended, ended}
+use Rattle.decide.specs.Append.{final, fate, areaThen, Ended, ended, putIf, putsIf}
 
 -- the last entry in use, by its place
 pub final-is : {A : Type 0} (w n : ℕ) (l : List A) → 0 < n → final (entries w n l) ≡ part l ((n - 1) * w) w
@@ -81,3 +81,16 @@ module _ (w n : ℕ) (e l : List Float) (r : Append) (a : List Float) (did : rec
   pub ended-full : r ≡ Full → (matches eq (final (entries w n l)) e ≡ false) × (leb (n + 1) (room w (length l)) ≡ false) × (a ≡ l)
   unfolding areaThen
   ended-full q = let f = fate-full _ _ (how ∙ q) in (f .0, f .1, area-by Full q)
+
+-- entries appended where they are needed
+pub puts-none : {A : Type 0} (need : Bool) (w n : ℕ) (es : List (List A)) (l : List A) → not need ≡ true → record { count = n; area = l } ≡ putsIf need w n es l
+unfolding putsIf
+puts-none need w n es l h = rw (not-true need h)
+
+pub puts-some : {A : Type 0} (need : Bool) (w n c : ℕ) (es : List (List A)) (l a : List A) → not need ≡ false → c ≡ n + length es → a ≡ write w n es l → record { count = c; area = a } ≡ putsIf need w n es l
+unfolding putsIf
+puts-some need w n c es l a h count is = rw (not-false need h, ← count, ← is)
+
+-- one entry, put at its place
+pub put-one : {A : Type 0} (need : Bool) (w n p : ℕ) (e l a : List A) → not need ≡ false → p ≡ n * w → a ≡ put l p e → record { count = n + 1; area = a } ≡ putIf need w n e l
+put-one need w n p e l a h at is = puts-some need w n (n + 1) (e ∷ []) l a h refl (is ∙ rw (at, write-one w n e l))

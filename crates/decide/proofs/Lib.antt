@@ -1,2 +1,4 @@
 pub mod Ends
 pub mod Rules
+pub mod Shorts
+pub mod Slots

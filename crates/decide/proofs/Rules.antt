@@ -7,9 +7,9 @@ use mathlib.Core.Bool.{Bool, true, false, not, _&&_, false≢true}
 use mathlib.Core.List.{List}
 use lib.Dec.{ltb, leb}
 use lib.Ieee.{Float}
-use borrow.Author.Tests.{ltb-true, le-leb, lt-leb}
+use borrow.Author.Tests.{ltb-true, le-leb, lt-leb, not-true, not-false}
 use Rattle.matrix.specs.Math.{times}
-use Rattle.decide.specs.Family.{flag}
+use Rattle.decide.specs.Family.{flag, f3dex2, lit, texgenMode}
 use Rattle.decide.specs.Stack.{made, pushed, popped}
 
 -- the second of two tests that both hold
@@ -60,3 +60,17 @@ reaches-past len at need h = sym (lt-leb (at + need) len (omega arith))
 -- no word has the flag of value 0
 pub no-flag : (v x : ℕ) → v ≡ 0 → false ≡ flag v x
 no-flag v x e = rw (e, div-zero)
+
+-- the texgen mode, by the tests
+module _ (g : ℕ) (a b : Bool) (is-lit : a ≡ lit f3dex2 g) (is-texgen : b ≡ flag 0x40000 g) where
+  pub no-texgen : not (a && b) ≡ true → 0 ≡ texgenMode f3dex2 g
+  unfolding texgenMode
+  no-texgen h = rw (← is-lit, ← is-texgen, not-true (a && b) h)
+
+  pub linear-texgen : not (a && b) ≡ false → (l : Bool) → l ≡ flag 0x80000 g → l ≡ true → 2 ≡ texgenMode f3dex2 g
+  unfolding texgenMode
+  linear-texgen h l e t = rw (← is-lit, ← is-texgen, not-false (a && b) h, ← e, t)
+
+  pub plain-texgen : not (a && b) ≡ false → (l : Bool) → l ≡ flag 0x80000 g → l ≡ false → 1 ≡ texgenMode f3dex2 g
+  unfolding texgenMode
+  plain-texgen h l e t = rw (← is-lit, ← is-texgen, not-false (a && b) h, ← e, t)

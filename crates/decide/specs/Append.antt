@@ -34,3 +34,17 @@ unfoldable pub ended : ℕ → ℕ → List Float → List Float → Ended
 ended w n e l =
     let h = fate (matches eq (final (entries w n l)) e) (leb (n + 1) (room w (length l))) in
     record { how = h; area = areaThen h w n e l }
+
+-- the count of a table, and its area, after an entry was appended or was not
+pub record Put (A : Type 0) : Type 0 where
+  pub count : ℕ
+  pub area : List A
+
+-- the entries es appended where need says so
+unfoldable pub putsIf : {A : Type 0} → Bool → ℕ → ℕ → List (List A) → List A → Put A
+putsIf true w n es l = record { count = n + length es; area = write w n es l }
+putsIf false w n es l = record { count = n; area = l }
+
+-- one entry
+abbrev pub putIf : {A : Type 0} → Bool → ℕ → ℕ → List A → List A → Put A
+putIf need w n e l = putsIf need w n (e ∷ []) l

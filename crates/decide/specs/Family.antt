@@ -1,6 +1,6 @@
 -- What a family of microcodes sets apart: the flag values that the Rust keeps in GbiConstants. Definitions take a family; the base has one.
 use Prim.Native.Nat.{ℕ, _/_, _%_}
-use mathlib.Core.Bool.{Bool}
+use mathlib.Core.Bool.{Bool, _&&_, cond}
 use lib.Dec.{eqb}
 
 -- each a power of two
@@ -33,3 +33,11 @@ f3dex2 =
 -- the flag of value v is set in the word x
 abbrev pub flag : ℕ → ℕ → Bool
 flag v x = eqb (x / v % 2) 1
+
+-- lit, by the geometry mode word
+abbrev pub lit : Family → ℕ → Bool
+lit f g = flag (f .lighting) g
+
+-- 0 none, 1 texgen, 2 linear texgen; only where lit
+unfoldable pub texgenMode : Family → ℕ → ℕ
+texgenMode f g = cond (lit f g && flag (f .texgen) g) (cond (flag (f .linear) g) 2 1) 0

@@ -1,3 +1,6 @@
 pub mod Append
 pub mod Family
+pub mod Judge
+pub mod Lights
+pub mod Pick
 pub mod Stack

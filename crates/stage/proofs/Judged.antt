@@ -25,6 +25,13 @@ pub record Ranges (s : State) : Type 0 where
   pub matrices : s .counts .matrices ≤ 1048576
   pub viewport : 1 ≤ s .counts .viewports
   pub viewports : s .counts .viewports ≤ 1048576
+  pub scales : s .counts .scales ≤ 1048576
+  pub folded : s .counts .lights ≤ 1048576
+  pub lookats : s .counts .lookats ≤ 1048576
+  pub fogs : s .counts .fogs ≤ 1048576
+  pub rows : s .counts .rows ≤ 1048576
+  pub indices : s .counts .indices ≤ 1048576
+  pub runs : s .counts .runs ≤ 1048576
 
 pub ranges : (s : State) → stateSound s ≡ true → Ranges s
 unfolding stateSound
@@ -38,6 +45,13 @@ ranges s h =
       matrices = leb-true _ _ (t 5);
       viewport = leb-true _ _ (t 6);
       viewports = leb-true _ _ (t 7);
+      scales = leb-true _ _ (t 8);
+      folded = leb-true _ _ (t 9);
+      lookats = leb-true _ _ (t 10);
+      fogs = leb-true _ _ (t 11);
+      rows = leb-true _ _ (t 12);
+      indices = leb-true _ _ (t 13);
+      runs = leb-true _ _ (t 14);
     }
 
 -- tests joined from the left, as the code joins them
@@ -53,3 +67,13 @@ and-true false = refl
 pub joined : (a b c d : Bool) (bs : List Bool) → a && b && c && d && all bs ≡ all (a ∷ b ∷ c ∷ d ∷ bs)
 unfolding all
 joined a b c d bs = simp and-assoc
+
+-- the first of two tests that both hold
+pub and-left : (a b : Bool) → a && b ≡ true → a ≡ true
+and-left true b e = refl
+and-left false b e = absurd (false≢true e)
+
+-- the second
+pub and-right : (a b : Bool) → a && b ≡ true → b ≡ true
+and-right true b e = e
+and-right false b e = absurd (false≢true e)

@@ -2,5 +2,10 @@ pub mod Apart
 pub mod Appends
 pub mod Cascade
 pub mod Combining
+pub mod Filling
 pub mod Judged
+pub mod Lighting
+pub mod Loading
+pub mod Settling
+pub mod Tabled
 pub mod Turning

@@ -1,6 +1,9 @@
 pub mod Answers
+pub mod Lights
+pub mod Load
 pub mod Matrices
 pub mod Opening
 pub mod Plan
+pub mod Rows
 pub mod Sound
 pub mod With

@@ -12,7 +12,7 @@ use Rattle.stage.specs.declared.Counts.{Counts}
 use Rattle.stage.specs.declared.Texture.{Texture}
 use Rattle.stage.specs.declared.Lights.{Lights}
 use Rattle.stage.specs.declared.Lookat.{Lookat}
-use Rattle.stage.specs.Plan.{Edits, Edit, keep, grow, Plan, does, Lent, judge, Outcome, settle, after, table, lent}
+use Rattle.stage.specs.Plan.{Edits, Edit, keep, grow, Plan, does, judge, Outcome, settle, after, table, lent}
 use Rattle.stage.specs.With.{withModel, withProjection, withCombined}
 
 -- n zeros

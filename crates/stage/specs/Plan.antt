@@ -1,6 +1,6 @@
 -- The vocabulary in which the meaning of each command is said: a plan, made of the state, of what is in use of the lent tables and of the
 -- arguments alone, and what the state, the answer and the areas are after it. Definitions only.
-use Prim.Native.Nat.{ℕ, _+_}
+use Prim.Native.Nat.{ℕ, _+_, min}
 use mathlib.Core.Bool.{Bool, true, false}
 use mathlib.Core.List.{List, [], _∷_}
 use lib.ListN.{length}
@@ -9,6 +9,8 @@ use lib.Dec.{leb}
 use lib.Ieee.{Float, eq}
 use Rattle.areas.specs.Area.{entries, room, write, matches}
 use Rattle.decide.specs.Append.{final}
+use Rattle.decide.specs.Judge.{Lent, fits}
+unfoldable pub use Rattle.decide.specs.Pick.{pick}
 use Rattle.stage.specs.declared.State.{State}
 use Rattle.stage.specs.declared.Counts.{Counts}
 use Rattle.stage.specs.declared.Answered.{Answered}
@@ -37,6 +39,16 @@ pub record Row : Type 0 where
   pub floats : List Float
   pub words : List ℕ
 
+-- the entries of table 7, from those of its two areas
+abbrev pub rowsOf : List (List Float) → List (List ℕ) → List Row
+rowsOf [] ws = []
+rowsOf (f ∷ fs) [] = []
+rowsOf (f ∷ fs) (w ∷ ws) = record { floats = f; words = w } ∷ rowsOf fs ws
+
+-- table 7 of n rows in use, in the areas f and w; the lesser room counts
+abbrev pub rowTable : ℕ → List Float → List ℕ → Table Row
+rowTable n f w = record { used = rowsOf (entries 9 n f) (entries 10 n w); room = min (room 9 (length f)) (room 10 (length w)) }
+
 -- what a command does to each table, 1 to 9
 pub record Edits : Type 0 where
   pub matrices : Edit (List Float)
@@ -61,31 +73,20 @@ unfoldable pub unless : Bool → ℕ → List ℕ → Plan → Plan
 unless true n vs p = p
 unless false n vs p = refuse n vs
 
--- one of two, by a test
-unfoldable pub pick : {A : Type 0} → Bool → A → A → A
-pick true x y = x
-pick false x y = y
-
 -- how many entries an edit appends
 abbrev pub more : {E : Type 0} → Edit E → ℕ
 more keep = 0
 more (grow es) = length es
 more (patch i e) = 0
 
--- a table as refusals 8 and 9 judge it: its number, entries in use, entries to be appended, room
-pub record Lent : Type 0 where
-  pub number : ℕ
-  pub used : ℕ
-  pub more : ℕ
-  pub room : ℕ
-
+-- a lent table as refusals 8 and 9 judge it, under its number
 abbrev pub lent : {E : Type 0} → ℕ → Table E → Edit E → Lent
 lent k t e = record { number = k; used = length (t .used); more = more e; room = t .room }
 
 -- refusal n with the first table, the lowest, that has less room than what it is to hold
 abbrev pub judge : ℕ → List Lent → Plan → Plan
 judge n [] p = p
-judge n (t ∷ ts) p = unless (leb (t .used + t .more) (t .room)) n (t .number ∷ []) (judge n ts p)
+judge n (t ∷ ts) p = unless (fits t) n (t .number ∷ []) (judge n ts p)
 
 -- the entry e appended, unless the last entry compares equal to it: zeros of either sign are equal, a NaN never is
 unfoldable pub appended : Table (List Float) → List Float → Edit (List Float)

@@ -503,3 +503,49 @@ marked l b =
       top = l .top;
       first = l .first;
     }
+
+-- another number of lights
+abbrev pub withNumber : Lights → ℕ → Lights
+withNumber l n =
+    record {
+      number = n;
+      directions = l .directions;
+      colours = l .colours;
+      ambient = l .ambient;
+      changed = l .changed;
+      folded = l .folded;
+      top = l .top;
+      first = l .first;
+    }
+
+-- another ambient colour
+abbrev pub withAmbient : Lights → List Float → Lights
+withAmbient l a =
+    record {
+      number = l .number;
+      directions = l .directions;
+      colours = l .colours;
+      ambient = a;
+      changed = l .changed;
+      folded = l .folded;
+      top = l .top;
+      first = l .first;
+    }
+
+-- other directions and colours of the light slots
+abbrev pub withColumns : Lights → List Float → List Float → Lights
+withColumns l d c =
+    record {
+      number = l .number;
+      directions = d;
+      colours = c;
+      ambient = l .ambient;
+      changed = l .changed;
+      folded = l .folded;
+      top = l .top;
+      first = l .first;
+    }
+
+-- other lookat axes, marked changed or not
+abbrev pub withAxes : Lookat → List Float → Bool → Lookat
+withAxes l a b = record { axes = a; changed = b; folded = l .folded; top = l .top; place = l .place }

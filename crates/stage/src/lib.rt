@@ -1,5 +1,8 @@
 // The geometry stage: its state, its answers and its commands, a file for each module of the port.
+pub mod load;
 pub mod matrices;
+pub mod rows;
+pub mod settings;
 
 // How many entries of each table are in use, tables 1 to 9.
 pub struct Counts {

@@ -179,7 +179,7 @@ impl State {
     }
 
     // The model top times projection. Asks for a depth in its range.
-    fn product(self) -> [f32; 16]
+    pub(crate) fn product(self) -> [f32; 16]
         requires { ⌜ (1 ≤ self .depth) × (self .depth ≤ 32) ⌝ }
         ensures { λ r. ⌜ r ≡ laid (times (top self) (rows (self .projection) 0)) ⌝ }
     {

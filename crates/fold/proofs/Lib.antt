@@ -1,0 +1,5 @@
+pub mod Believe
+pub mod Laid
+pub mod Lasting
+pub mod Passed
+pub mod Settling

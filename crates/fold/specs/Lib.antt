@@ -1,0 +1,6 @@
+pub mod Decision
+pub mod Direction
+pub mod Fog
+pub mod Lights
+pub mod Lookat
+pub mod Scales

@@ -1,0 +1,61 @@
+-- Laws of the light, lookat and microcode commands. Assumes nothing.
+use mathlib.Core.Path.{_≡_, refl, _∙_}
+use Prim.Native.Nat.{ℕ, _≤_}
+use native.Mathlib.Omega.{arith}
+use mathlib.Core.Bool.{Bool, true, false}
+use mathlib.Core.List.{List, [], _∷_}
+use lib.Ieee.{Float}
+use borrow.Author.Tests.{ne-eqb}
+use Rattle.layout.specs.declared.records.Light.{Light}
+use Rattle.layout.specs.Layout.{lightAt}
+use Rattle.decide.specs.Lights.{lightNumber}
+use Rattle.decide.proofs.Slots.{slot-above}
+use Rattle.stage.specs.declared.State.{State}
+use Rattle.stage.specs.declared.Lights.{Lights}
+use Rattle.stage.specs.declared.Lookat.{Lookat}
+use Rattle.stage.specs.declared.settings.Microcode.{Microcode}
+use Rattle.stage.specs.Plan.{Plan, does, unless, needs, nothing, settle, untouched}
+use Rattle.stage.specs.Sound.{stateSound, sound}
+use Rattle.stage.specs.Lights.{lightIn, axisIn, lightsTo, lookatTo, slotPlan, lightPlan, lookatPlan, switched, microcodePlan, remains}
+use Rattle.stage.proofs.Cascade.{left}
+use Rattle.stage.proofs.Judged.{Ranges, ranges}
+
+-- case 6 of document 01: 23, 48, 191 and 500 bytes of lights
+pub case-6 : lightNumber 23 ∷ lightNumber 48 ∷ lightNumber 191 ∷ lightNumber 500 ∷ [] ≡ 0 ∷ 2 ∷ 7 ∷ 7 ∷ []
+case-6 = refl
+
+-- two plans behind one test are the same where they are the same once it holds
+unless-same : (b : Bool) (n : ℕ) (vs : List ℕ) (p q : Plan) → (b ≡ true → p ≡ q) → unless b n vs p ≡ unless b n vs q
+unfolding unless
+unless-same true n vs p q f = f refl
+unless-same false n vs p q f = refl
+
+-- a slot that there is not stores no light, and no axis
+light-in-above : (l : Lights) (k : ℕ) (x : Light) → 8 ≤ k → lightIn l k x ≡ l
+unfolding lightIn
+light-in-above l k x h = rw (slot-above 8 k (l .directions) (x .direction) h, slot-above 8 k (l .colours) (x .colour) h)
+
+axis-in-above : (l : Lookat) (k : ℕ) (d : List Float) → 2 ≤ k → axisIn l k d ≡ l
+unfolding axisIn
+axis-in-above l k d h = rw (slot-above 2 k (l .axes) d h)
+
+-- A LIGHT SLOT ABOVE 7 CHANGES NOTHING BUT THE CHANGED MARK, whatever the number of lights
+pub light-above : (s : State) (slot : ℕ) (bytes : List ℕ) (at : ℕ) → 8 ≤ slot → lightPlan s slot bytes at ≡ sound s (needs 11 at bytes (lightsTo s (s .lights)))
+unfolding lightPlan slotPlan
+light-above s slot bytes at h =
+    unless-same (stateSound s) _ _ _ _
+    (λ e. let r : Ranges s = ranges s e in left _ _ _ (ne-eqb slot (s .lights .number) (λ q. omega (arith, r .lights))) ∙ rw (light-in-above (s .lights) slot (lightAt bytes at) h))
+
+-- A LOOKAT SLOT ABOVE 1 CHANGES NOTHING BUT THE CHANGED MARK
+pub lookat-above : (s : State) (slot : ℕ) (bytes : List ℕ) (at : ℕ) → 2 ≤ slot → lookatPlan s slot bytes at ≡ sound s (needs 11 at bytes (lookatTo s (s .lookat)))
+unfolding lookatPlan
+lookat-above s slot bytes at h = rw (axis-in-above (s .lookat) slot _ h)
+
+-- A MICROCODE CHANGE KEEPS every slot's row and ever mark, every count, the matrices and the settings
+pub microcode-keeps : (s : State) (m : Microcode) → remains (settle nothing (microcodePlan s m) s tt .state) ≡ remains s
+unfolding microcodePlan unless settle switched
+microcode-keeps s m = by (stateSound s)
+  where
+    by : (b : Bool) → remains (settle nothing (unless b 10 [] (does [] (switched s m) untouched)) s tt .state) ≡ remains s
+    by true = refl
+    by false = refl

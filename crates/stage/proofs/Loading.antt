@@ -1,0 +1,280 @@
+-- The load, put together: its judges, and what it leaves. Assumes nothing.
+use mathlib.Core.Path.{_≡_, refl, sym, ap, ap₂, _∙_, subst}
+use Prim.Native.Nat.{ℕ, zero, suc, _+_, _*_, _≤_, min}
+use native.Mathlib.Omega.{arith}
+use mathlib.Core.Bool.{Bool, true, false, _&&_}
+use lib.Dec.{leb}
+use borrow.Author.Tests.{leb-true}
+use mathlib.Core.List.{List, [], _∷_, map}
+use lib.ListN.{length, length-map}
+use lib.IntN.{ℤ}
+use lib.Ieee.{Float}
+use Rattle.areas.specs.Area.{entries, room, write}
+use Rattle.areas.proofs.Tables.{length-entries, room-fits}
+use Rattle.matrix.specs.Math.{rows}
+use Rattle.layout.specs.declared.records.Vertex.{Vertex}
+use Rattle.decide.specs.Family.{f3dex2}
+use Rattle.decide.specs.Judge.{firstShort}
+use Rattle.fold.specs.Lights.{lightEntries}
+use Rattle.fold.specs.Fog.{find}
+use Rattle.fold.specs.Lookat.{lookatEntry}
+use Rattle.fold.proofs.Believe.{length-lights, find-first}
+use Rattle.vertex.specs.declared.Shared.{Shared}
+use Rattle.vertex.specs.Vertices.{floatsOf, wordsOf, verticesAt}
+use Rattle.vertex.proofs.Believe.{length-vertices}
+use Rattle.stage.specs.declared.State.{State}
+use Rattle.stage.specs.declared.Counts.{Counts}
+use Rattle.stage.specs.declared.Answer.the-variants.{Told, BadState, BadLoad, ShortData, ShortArea, NoRoom}
+use Rattle.stage.specs.declared.load.Settled.{Settled}
+use Rattle.stage.specs.declared.load.More.{More}
+use Rattle.stage.specs.declared.load.Rooms.{Rooms}
+use Rattle.stage.specs.Plan.{Edits, Plan, judge, more, pick, does, rowsOf, untouched, advance, Outcome, outcome, settle}
+use Rattle.stage.specs.Load.{settled, settledState, sharedBy, loadEdits, loadPlan, onlyIf, rowOf, LoadAreas, loadTables, loadLent, sixLent, roomsOf, moreBy, noMore, Ranged, TablesAre, areasLoad, fogPair}
+use Rattle.stage.specs.Sound.{stateSound}
+use Rattle.stage.specs.Rows.{RowsFit, RowsLaid, fillSlots}
+use Rattle.stage.specs.With.{withCounts}
+use Rattle.stage.proofs.Judged.{Ranges, and-right}
+use Rattle.stage.proofs.Tabled.{Numbered, fits-first, table-refused, table-passed}
+use Rattle.stage.proofs.Cascade.{refused, passed}
+
+-- ---- the tables, as the code judges them
+
+length-rows : (n : ℕ) (f : List Float) (w : List ℕ) → length (rowsOf (entries 9 n f) (entries 10 n w)) ≡ n
+length-rows zero f w = refl
+length-rows (suc n) f w = ap suc (length-rows n (lib.ListN.drop 9 f) (lib.ListN.drop 10 w))
+
+pub six-lent : (c : Counts) (l : LoadAreas) (e : Edits) (m : More) (r : Rooms)
+    → r ≡ roomsOf (length (l .matrices)) (length (l .scales)) (length (l .lights)) (length (l .lookats)) (length (l .fogs)) (length (l .floats)) (length (l .words))
+    → record { matrices = more (e .matrices); scales = more (e .scales); lights = more (e .lights); lookats = more (e .lookats); fogs = more (e .fogs); rows = more (e .rows) } ≡ m
+    → loadLent (loadTables c l) e ≡ sixLent c m r
+unfolding roomsOf
+six-lent c l e m r a b = rw (a, ← b, length-entries 16 (c .matrices) (l .matrices), length-entries 4 (c .scales) (l .scales), length-entries 6 (c .lights) (l .lights), length-entries 6 (c .lookats) (l .lookats), length-entries 2 (c .fogs) (l .fogs), length-rows (c .rows) (l .floats) (l .words))
+
+-- how many entries each edit appends
+more-if : {E : Type 0} (b : Bool) (es : List E) (k : ℕ) → length es ≡ k → more (onlyIf b es) ≡ pick b k 0
+unfolding pick
+more-if true es k e = e
+more-if false es k e = refl
+
+pub load-more : (d : Settled) (s : State) (vs : List Vertex) (count : ℕ) → length vs ≡ count
+    → record { matrices = more (loadEdits d s vs .matrices); scales = more (loadEdits d s vs .scales); lights = more (loadEdits d s vs .lights); lookats = more (loadEdits d s vs .lookats); fogs = more (loadEdits d s vs .fogs); rows = more (loadEdits d s vs .rows) } ≡ moreBy d s count
+unfolding loadEdits moreBy
+load-more d s vs count h = λ i. record {
+  matrices = more-if (d .matrix) (d .combined ∷ []) 1 refl i;
+  scales = more-if (d .scale) (d .scales ∷ []) 1 refl i;
+  lights = more-if (d .light) (lightEntries (rows (d .model) 0) (s .lights .directions) (s .lights .colours) (s .lights .ambient) (s .lights .number)) (s .lights .number + 1) (length-lights (rows (d .model) 0) (s .lights .directions) (s .lights .colours) (s .lights .ambient) (s .lights .number)) i;
+  lookats = more-if (d .look) (lookatEntry (rows (d .model) 0) (s .lookat .axes) ∷ []) 1 refl i;
+  fogs = more-if (d .fog) (fogPair s ∷ []) 1 refl i;
+  rows = (length-map vs (rowOf (sharedBy d s)) ∙ h) i;
+}
+
+pub six-numbered : (c : Counts) (m : More) (r : Rooms) → Numbered (sixLent c m r)
+six-numbered c m r = (omega arith, (omega arith, (omega arith, (omega arith, (omega arith, (omega arith, tt))))))
+
+-- table 7 has room for the rows
+rows-room : (c : Counts) (m : More) (r : Rooms) → firstShort (sixLent c m r) ≡ 0 → c .rows + m .rows ≤ r .rows
+rows-room c m r e =
+    let a = fits-first _ _ (omega arith) e in
+    let b = fits-first _ _ (omega arith) (a .1) in
+    let d = fits-first _ _ (omega arith) (b .1) in
+    let f = fits-first _ _ (omega arith) (d .1) in
+    let g = fits-first _ _ (omega arith) (f .1) in
+    fits-first _ _ (omega arith) (g .1) .0
+
+-- ---- what has been judged by the time the rows are written
+
+pub fits-rows : (c : Counts) (d : Settled) (s : State) (m : More) (r : Rooms) (count f w : ℕ) → m ≡ moreBy d s count → r .rows ≡ min (room 9 f) (room 10 w) → firstShort (sixLent c m r) ≡ 0
+    → (c .rows + count ≤ 1048576) × ((c .rows + count) * 9 ≤ f) × ((c .rows + count) * 10 ≤ w)
+unfolding moreBy
+fits-rows c d s m r count f w e g h =
+    let k : c .rows + count ≤ min (room 9 f) (room 10 w) = subst (λ (n : ℕ). c .rows + n ≤ min (room 9 f) (room 10 w)) (ap (λ (x : More). x .rows) e) (subst (λ (n : ℕ). c .rows + m .rows ≤ n) g (rows-room c m r h)) in
+    let a = room-fits 9 f (c .rows + count) (omega arith) in
+    let b = room-fits 10 w (c .rows + count) (omega arith) in
+    (a .1, a .0, b .0)
+
+pub ranged : (s : State) (d : Settled) (x y : List (List Float)) (n : ℕ) (l : List ℤ) → n ≡ s .counts .fogs → d ≡ settled f3dex2 s x y (entries 2 n l) → Ranges s → Ranged s d
+unfolding settled
+ranged s d x y n l g e r =
+    record {
+      matrices = r .matrices;
+      scales = r .scales;
+      lights = r .folded;
+      lookats = r .lookats;
+      fogs = r .fogs;
+      number = r .lights;
+      place =
+          let p : d .fogat ≡ find (entries 2 n l) (fogPair s) = ap (λ (x : Settled). x .fogat) e in
+          let w : find (entries 2 n l) (fogPair s) ≤ length (entries 2 n l) = find-first (entries 2 n l) (fogPair s) .within in
+          let z : length (entries 2 n l) ≡ n = length-entries 2 n l in
+          let u = r .fogs in
+          omega arith;
+    }
+
+-- ---- what the load leaves
+
+rows-floats : (e : Shared) (vs : List Vertex) → map (λ r. r .floats) (map (rowOf e) vs) ≡ map floatsOf vs
+rows-floats e [] = refl
+rows-floats e (v ∷ vs) = ap (λ (r : List (List Float)). floatsOf v ∷ r) (rows-floats e vs)
+
+rows-words : (e : Shared) (vs : List Vertex) → map (λ r. r .words) (map (rowOf e) vs) ≡ map (wordsOf e) vs
+rows-words e [] = refl
+rows-words e (v ∷ vs) = ap (λ (r : List (List ℕ)). wordsOf e v ∷ r) (rows-words e vs)
+
+-- the counts, rows included
+abbrev pub withRowCount : Counts → ℕ → Counts
+withRowCount c n =
+    record {
+      matrices = c .matrices;
+      viewports = c .viewports;
+      scales = c .scales;
+      lights = c .lights;
+      lookats = c .lookats;
+      fogs = c .fogs;
+      rows = n;
+      indices = c .indices;
+      runs = c .runs;
+    }
+
+module _ (s s′ t : State) (d : Settled) (e : Shared) (m : List (List Float)) (c : Counts) (vs : List Vertex) (first count notice : ℕ) (l k : LoadAreas)
+    (is-state : s′ ≡ settledState d s)
+    (is-shared : e ≡ sharedBy d s)
+    (is-matrix : m ≡ rows (d .combined) 0)
+    (tables : TablesAre d s (loadEdits d s []) c (l .matrices) (l .scales) (l .lights) (l .lookats) (l .fogs) (k .matrices) (k .scales) (k .lights) (k .lookats) (k .fogs))
+    (laid : RowsLaid s′ m e first vs (l .floats) (l .words) t (k .floats) (k .words))
+    (is-notice : notice ≡ pick (s .defined) 0 1)
+    (is-count : length vs ≡ count) where
+  kept : s′ .counts ≡ s .counts
+  unfolding settledState
+  kept = ap (λ (x : State). x .counts) is-state
+
+  base : s′ .counts .rows ≡ s .counts .rows
+  base = ap (λ (x : Counts). x .rows) kept
+
+  counts-then : withRowCount c (c .rows + count) ≡ advance (loadEdits d s vs) (s .counts)
+  unfolding loadEdits
+  counts-then = λ i. withRowCount (tables .counts i) (rows-then i)
+    where
+      rows-then : c .rows + count ≡ s .counts .rows + length (map (rowOf (sharedBy d s)) vs)
+      rows-then = ap₂ (λ (a b : ℕ). a + b) (ap (λ (x : Counts). x .rows) (tables .counts)) (sym is-count ∙ sym (length-map vs (rowOf (sharedBy d s))))
+
+  state-then : t ≡ fillSlots (settledState d s) (rows (d .combined) 0) (sharedBy d s) first (s .counts .rows) vs
+  state-then =
+      laid .state
+      ∙ ap (λ (x : State). fillSlots x m e first (s′ .counts .rows) vs) is-state
+      ∙ ap (λ (n : ℕ). fillSlots (settledState d s) m e first n vs) base
+      ∙ ap (λ (x : Shared). fillSlots (settledState d s) m x first (s .counts .rows) vs) is-shared
+      ∙ ap (λ (x : List (List Float)). fillSlots (settledState d s) x (sharedBy d s) first (s .counts .rows) vs) is-matrix
+
+  floats-then : k .floats ≡ write 9 (s .counts .rows) (map (λ r. r .floats) (map (rowOf (sharedBy d s)) vs)) (l .floats)
+  floats-then =
+      laid .floats
+      ∙ ap (λ (n : ℕ). write 9 n (map floatsOf vs) (l .floats)) base
+      ∙ ap (λ (es : List (List Float)). write 9 (s .counts .rows) es (l .floats)) (sym (rows-floats (sharedBy d s) vs))
+
+  words-then : k .words ≡ write 10 (s .counts .rows) (map (λ r. r .words) (map (rowOf (sharedBy d s)) vs)) (l .words)
+  words-then =
+      laid .words
+      ∙ ap (λ (n : ℕ). write 10 n (map (wordsOf e) vs) (l .words)) base
+      ∙ ap (λ (x : Shared). write 10 (s .counts .rows) (map (wordsOf x) vs) (l .words)) is-shared
+      ∙ ap (λ (es : List (List ℕ)). write 10 (s .counts .rows) es (l .words)) (sym (rows-words (sharedBy d s) vs))
+
+  pub load-done : outcome (record { state = withCounts t (withRowCount c (c .rows + count)); answer = Told notice }) k
+      ≡ settle areasLoad (does (pick (s .defined) 0 1 ∷ []) (fillSlots (settledState d s) (rows (d .combined) 0) (sharedBy d s) first (s .counts .rows) vs) (loadEdits d s vs)) s l
+  unfolding settle loadEdits
+  load-done = λ i. record {
+    state = withCounts (state-then i) (counts-then i);
+    number = 0;
+    values = is-notice i ∷ [];
+    areas = record {
+      matrices = tables .matrices i;
+      scales = tables .scales i;
+      lights = tables .lights i;
+      lookats = tables .lookats i;
+      fogs = tables .fogs i;
+      floats = floats-then i;
+      words = words-then i;
+    };
+  }
+
+-- ---- the load's ways out, each by the tests that lead there
+module _ (s : State) (l : LoadAreas) (first count at : ℕ) (bytes : List ℕ) where
+  abbrev load-plan : Plan
+  load-plan = loadPlan f3dex2 256 s (loadTables (s .counts) l) first count bytes at
+
+  pub way-state : stateSound s ≡ false → outcome (record { state = s; answer = BadState }) l ≡ settle areasLoad load-plan s l
+  unfolding loadPlan
+  way-state h = refused areasLoad s l _ _ BadState h
+
+  module _ (sound : stateSound s ≡ true) where
+    pub way-slots : (leb count 256 && leb (first + count) 256) ≡ false → outcome (record { state = s; answer = BadLoad count first }) l ≡ settle areasLoad load-plan s l
+    unfolding loadPlan
+    way-slots h = passed areasLoad s l _ _ _ _ _ sound (refused areasLoad s l _ _ (BadLoad count first) h)
+
+    module _ (slots : (leb count 256 && leb (first + count) 256) ≡ true) where
+      pub way-data : leb (at + 16 * count) (length bytes) ≡ false → outcome (record { state = s; answer = ShortData (16 * count) }) l ≡ settle areasLoad load-plan s l
+      unfolding loadPlan
+      way-data h = passed areasLoad s l _ _ _ _ _ sound (passed areasLoad s l _ _ _ _ _ slots (refused areasLoad s l _ _ (ShortData (16 * count)) h))
+
+      module _ (reach : leb (at + 16 * count) (length bytes) ≡ true) (r : Rooms)
+          (is-rooms : r ≡ roomsOf (length (l .matrices)) (length (l .scales)) (length (l .lights)) (length (l .lookats)) (length (l .fogs)) (length (l .floats)) (length (l .words)))
+          (short : ℕ) (is-short : short ≡ firstShort (sixLent (s .counts) noMore r)) where
+        eight : loadLent (loadTables (s .counts) l) untouched ≡ sixLent (s .counts) noMore r
+        eight = six-lent (s .counts) l untouched noMore r is-rooms refl
+
+        numbered : (e : Edits) (m : More) → loadLent (loadTables (s .counts) l) e ≡ sixLent (s .counts) m r → Numbered (loadLent (loadTables (s .counts) l) e)
+        numbered e m h = subst Numbered (sym h) (six-numbered (s .counts) m r)
+
+        pub way-short : (short ≡ 0 → ⊥) → outcome (record { state = s; answer = ShortArea short }) l ≡ settle areasLoad load-plan s l
+        unfolding loadPlan
+        way-short h =
+            passed areasLoad s l _ _ _ _ _ sound
+            (passed areasLoad s l _ _ _ _ _ slots
+            (passed areasLoad s l _ _ _ _ _ reach
+            (table-refused areasLoad s l 8 (loadLent (loadTables (s .counts) l) untouched) _ (ShortArea short) short (numbered untouched noMore eight) (is-short ∙ ap firstShort (sym eight)) h refl refl)))
+
+        module _ (fits8 : short ≡ 0) (d : Settled)
+            (is-settled : d ≡ settled f3dex2 s (entries 16 (s .counts .matrices) (l .matrices)) (entries 4 (s .counts .scales) (l .scales)) (entries 2 (s .counts .fogs) (l .fogs)))
+            (m : More) (is-more : m ≡ moreBy d s count) (full : ℕ) (is-full : full ≡ firstShort (sixLent (s .counts) m r)) where
+          abbrev vs : List Vertex
+          vs = verticesAt bytes at count
+
+          nine : loadLent (loadTables (s .counts) l) (loadEdits d s vs) ≡ sixLent (s .counts) m r
+          nine = six-lent (s .counts) l (loadEdits d s vs) m r is-rooms (load-more d s vs count (length-vertices bytes at count) ∙ sym is-more)
+
+          abbrev rest : Plan
+          rest = does (pick (s .defined) 0 1 ∷ []) (fillSlots (settledState d s) (rows (d .combined) 0) (sharedBy d s) first (s .counts .rows) vs) (loadEdits d s vs)
+
+          to-nine : (o : Outcome LoadAreas) → o ≡ settle areasLoad (judge 9 (loadLent (loadTables (s .counts) l) (loadEdits d s vs)) rest) s l → o ≡ settle areasLoad load-plan s l
+          unfolding loadPlan
+          to-nine o h =
+              passed areasLoad s l _ _ _ _ o sound
+              (passed areasLoad s l _ _ _ _ o slots
+              (passed areasLoad s l _ _ _ _ o reach
+              (table-passed areasLoad s l 8 (loadLent (loadTables (s .counts) l) untouched) _ o short (numbered untouched noMore eight) (is-short ∙ ap firstShort (sym eight)) fits8
+              (h ∙ ap (λ (x : Settled). settle areasLoad (judge 9 (loadLent (loadTables (s .counts) l) (loadEdits x s vs)) (does (pick (s .defined) 0 1 ∷ []) (fillSlots (settledState x s) (rows (x .combined) 0) (sharedBy x s) first (s .counts .rows) vs) (loadEdits x s vs))) s l) is-settled))))
+
+          pub way-full : (full ≡ 0 → ⊥) → outcome (record { state = s; answer = NoRoom full }) l ≡ settle areasLoad load-plan s l
+          way-full h = to-nine _ (table-refused areasLoad s l 9 (loadLent (loadTables (s .counts) l) (loadEdits d s vs)) rest (NoRoom full) full (numbered (loadEdits d s vs) m nine) (is-full ∙ ap firstShort (sym nine)) h refl refl)
+
+          pub way-done : full ≡ 0 → (o : Outcome LoadAreas) → o ≡ settle areasLoad rest s l → o ≡ settle areasLoad load-plan s l
+          way-done z o h = to-nine o (table-passed areasLoad s l 9 (loadLent (loadTables (s .counts) l) (loadEdits d s vs)) rest o full (numbered (loadEdits d s vs) m nine) (is-full ∙ ap firstShort (sym nine)) z h)
+
+-- what the rows ask for
+pub fit-rows : (s s′ : State) (d : Settled) (m : More) (r : Rooms) (first count at x1 x2 x3 x4 x5 full : ℕ) (b : List ℕ) (f : List Float) (w : List ℕ) → s′ ≡ settledState d s
+    → (leb count 256 && leb (first + count) 256) ≡ true → leb (at + 16 * count) (length b) ≡ true → r ≡ roomsOf x1 x2 x3 x4 x5 (length f) (length w) → m ≡ moreBy d s count
+    → full ≡ firstShort (sixLent (s .counts) m r) → full ≡ 0 → RowsFit s′ first count at b f w
+unfolding settledState roomsOf
+fit-rows s s′ d m r first count at x1 x2 x3 x4 x5 full b f w e slots reach rooms mores is z =
+    let n : s′ .counts .rows ≡ s .counts .rows = ap (λ (x : State). x .counts .rows) e in
+    let g = fits-rows (s .counts) d s m r count (length f) (length w) mores (ap (λ (x : Rooms). x .rows) rooms) (sym is ∙ z) in
+    record {
+      slots = leb-true _ _ (and-right (leb count 256) (leb (first + count) 256) slots);
+      bytes = leb-true _ _ reach;
+      rows = subst (λ (k : ℕ). k + count ≤ 1048576) (sym n) (g .0);
+      floats = subst (λ (k : ℕ). (k + count) * 9 ≤ length f) (sym n) (g .1);
+      words = subst (λ (k : ℕ). (k + count) * 10 ≤ length w) (sym n) (g .2);
+    }
+
+-- the count of rows then
+pub rows-count : (s : State) (d : Settled) (e : Edits) (c : Counts) (a b l o : List Float) (f : List ℤ) (a′ b′ l′ o′ : List Float) (f′ : List ℤ) → TablesAre d s e c a b l o f a′ b′ l′ o′ f′ → c .rows ≡ s .counts .rows
+rows-count s d e c a b l o f a′ b′ l′ o′ f′ t = ap (λ (x : Counts). x .rows) (t .counts)

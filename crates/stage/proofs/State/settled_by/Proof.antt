@@ -1,0 +1,84 @@
+use mir.Syntax.{w16}
+use mir.Facts.{toZ-ofZ}
+use mathlib.Core.Path.{_∙_, ap, sym}
+use Rattle.matrix.specs.Math.{laid}
+use Rattle.stage.proofs.Settling.{settled-is}
+use Rattle.areas.proofs.Tables.{length-entries}
+use borrow.Author.Needs.{needs}
+use Rattle.stage.proofs.State.settled_by.Statement.{statement}
+use Rattle.stage.proofs.State.settled_by.Tie as tie
+
+top-of-requires : tie.Need-top-of-requires
+top-of-requires c κs = search needs
+
+to-flat-requires : tie.Need-to-flat-requires
+to-flat-requires c κs = search needs
+
+combined-now-requires : tie.Need-combined-now-requires
+combined-now-requires c κs = search needs
+
+scales-of-requires : tie.Need-scales-of-requires
+scales-of-requires c κs = search needs
+
+is-lit-requires : tie.Need-is-lit-requires
+is-lit-requires c κs = search needs
+
+texgen-mode-requires : tie.Need-texgen-mode-requires
+texgen-mode-requires c κs = search needs
+
+has-flag-requires : tie.Need-has-flag-requires
+has-flag-requires c κs = search needs
+
+fog-place-requires : tie.Need-fog-place-requires
+fog-place-requires c κs = search needs
+
+slice-aggregate-last-is : tie.Need-slice-aggregate-last-is
+slice-aggregate-last-is c = search needs
+
+last-is-requires : tie.Need-last-is-requires
+last-is-requires c κs = search needs
+
+scale-is-requires : tie.Need-scale-is-requires
+scale-is-requires c κs = search needs
+
+folds-requires : tie.Need-folds-requires
+folds-requires c κs = search needs
+
+folds-requires-2 : tie.Need-folds-requires-2
+folds-requires-2 c κs = search needs
+
+returns : tie.Need-returns
+returns c =
+    let s = c .before .before .before .before .before .before .before .before .before .before .before .before .before .before .before .before .before .before .before .before .before .before .args .self in
+    settled-is s _ _ _ (c .before .before .before .before .before .before .before .before .before .before .before .before .before .before .before .before .combined-now .result) (c .before .before .before .before .before .before .before .before .before .before .before .before .before .before .before .scales-of .result) (c .before .before .before .before .before .before .before .before .before .before .before .before .before .before .before .before .before .to-flat .result) (c .before .before .before .before .before .before .last-is .result) (c .before .before .before .before .before .scale-is .result) (c .before .before .before .folds .result) (c .before .folds2 .result) (c .before .before .before .before .before .before .before .before .before .before .before .before .before .before .is-lit .result) (c .before .before .before .before .before .before .before .before .before .before .before .before .has-flag .result) (c .before .before .before .before .before .before .before .before .before .before .before .before .before .texgen-mode .result) (c .before .before .before .before .before .before .before .before .before .fog-place .result) (s .counts .fogs)
+    (c .before .before .before .before .before .before .before .before .before .before .before .before .before .before .before .before .combined-now .ensures)
+    (c .before .before .before .before .before .before .before .before .before .before .before .before .before .before .before .scales-of .ensures)
+    (c .before .before .before .before .before .before .before .before .before .before .before .before .before .before .before .before .before .to-flat .ensures ∙ ap laid (c .before .before .before .before .before .before .before .before .before .before .before .before .before .before .before .before .before .before .top-of .ensures))
+    (c .before .before .before .before .before .before .before .before .before .before .before .before .before .before .is-lit .ensures)
+    (c .before .before .before .before .before .before .before .before .before .before .before .before .before .texgen-mode .ensures)
+    (c .before .before .before .before .before .before .before .before .before .before .before .before .has-flag .ensures)
+    (rw (toZ-ofZ {w = w16} {z = c .before .before .before .before .before .before .before .before .before .before .before .before .before .before .before .before .before .before .before .before .before .before .args .self .fogmul} (record { sfits = c .before .before .before .before .before .before .before .before .before .before .before .struct-told .given .1 .1 .1 .0 .1 }), toZ-ofZ {w = w16} {z = c .before .before .before .before .before .before .before .before .before .before .before .before .before .before .before .before .before .before .before .before .before .before .args .self .fogoff} (record { sfits = c .before .before .before .before .before .before .before .before .before .before .struct-told2 .given .1 .1 .1 .1 .0 .1 })) at (c .before .before .before .before .before .before .before .before .before .fog-place .ensures .0))
+    (c .before .before .before .before .before .before .last-is .ensures)
+    (c .before .before .before .before .before .scale-is .ensures)
+    (c .before .before .before .folds .ensures)
+    (c .before .folds2 .ensures)
+    (sym (length-entries 2 _ _))
+
+pub settled-by-spec : {M : Type 1} → statement M
+settled-by-spec =
+    tie.close
+    (tie.spec
+    top-of-requires
+    to-flat-requires
+    combined-now-requires
+    scales-of-requires
+    is-lit-requires
+    texgen-mode-requires
+    has-flag-requires
+    fog-place-requires
+    slice-aggregate-last-is
+    last-is-requires
+    scale-is-requires
+    folds-requires
+    folds-requires-2
+    returns)

@@ -1,0 +1,46 @@
+use Rattle.stage.specs.Load.{roomsOf}
+use borrow.Author.Needs.{needs}
+use Rattle.stage.proofs.load.rooms_of.Statement.{statement}
+use Rattle.stage.proofs.load.rooms_of.Tie as tie
+
+room-of-requires : tie.Need-room-of-requires
+room-of-requires c κs = search needs
+
+room-of-requires-2 : tie.Need-room-of-requires-2
+room-of-requires-2 c κs = search needs
+
+room-of-requires-3 : tie.Need-room-of-requires-3
+room-of-requires-3 c κs = search needs
+
+room-of-requires-4 : tie.Need-room-of-requires-4
+room-of-requires-4 c κs = search needs
+
+room-of-requires-5 : tie.Need-room-of-requires-5
+room-of-requires-5 c κs = search needs
+
+room-of-requires-6 : tie.Need-room-of-requires-6
+room-of-requires-6 c κs = search needs
+
+room-of-requires-7 : tie.Need-room-of-requires-7
+room-of-requires-7 c κs = search needs
+
+lesser-requires : tie.Need-lesser-requires
+lesser-requires c κs = search needs
+
+returns : tie.Need-returns
+unfolding roomsOf
+returns c = rw (c .lesser .ensures, c .before .room-of7 .ensures, c .before .before .room-of6 .ensures, c .before .before .before .room-of5 .ensures, c .before .before .before .before .room-of4 .ensures, c .before .before .before .before .before .room-of3 .ensures, c .before .before .before .before .before .before .room-of2 .ensures, c .before .before .before .before .before .before .before .room-of .ensures)
+
+pub rooms-of-spec : {M : Type 1} → statement M
+rooms-of-spec =
+    tie.close
+    (tie.spec
+    room-of-requires
+    room-of-requires-2
+    room-of-requires-3
+    room-of-requires-4
+    room-of-requires-5
+    room-of-requires-6
+    room-of-requires-7
+    lesser-requires
+    returns)

@@ -1,0 +1,402 @@
+// Load, clip codes and depths.
+ghost use mathlib.Core.Path.{_≡_};
+ghost use mathlib.Core.List.{[]};
+ghost use Prim.Native.Nat.{_+_, _*_, _≤_, min};
+ghost use lib.ListN.{length};
+ghost use Rattle.areas.specs.Area.{entries, room};
+ghost use Rattle.decide.specs.Family.{f3dex2};
+ghost use Rattle.decide.specs.Judge.{firstShort};
+ghost use Rattle.stage.specs.Plan.{outcome, settle, table, pick};
+ghost use Rattle.stage.specs.Load.{settled, foldedLights, foldedLookat, combinedNow, sharedBy, settledState, loadEdits, loadPlan, areasLoad, Ranged, TablesAre, roomsOf, sixLent, moreBy, loadAreas, loadTables};
+use crate::Answer;
+use crate::Answered;
+use crate::Counts;
+use crate::Lights;
+use crate::Lookat;
+use crate::State;
+use decide::judge::Fill;
+use vertex::Shared;
+
+// What a load settles before any row: the combined matrix in force and whether it is appended; the texture scales and
+// whether they are; the model top, whether lit, and whether lights are folded with it; the texgen mode and whether the
+// lookat axes are; whether there is fog, the place of its pair, and whether it is appended.
+pub struct Settled {
+    pub combined: [f32; 16],
+    pub matrix: bool,
+    pub scales: [f32; 4],
+    pub scale: bool,
+    pub model: [f32; 16],
+    pub lit: bool,
+    pub light: bool,
+    pub texgen: u32,
+    pub look: bool,
+    pub foggy: bool,
+    pub fogat: u32,
+    pub fog: bool,
+}
+
+// How many entries are to be appended to each table of a load.
+pub struct More {
+    pub matrices: u32,
+    pub scales: u32,
+    pub lights: u32,
+    pub lookats: u32,
+    pub fogs: u32,
+    pub rows: u32,
+}
+
+// How many entries each table of a load has room for.
+pub struct Rooms {
+    pub matrices: usize,
+    pub scales: usize,
+    pub lights: usize,
+    pub lookats: usize,
+    pub fogs: usize,
+    pub rows: usize,
+}
+
+fn lesser(a: usize, b: usize) -> usize
+    ensures { λ r. ⌜ r ≡ min a b ⌝ }
+{
+    if a < b { a } else { b }
+}
+
+// The rooms of areas of so many numbers.
+fn rooms_of(a: usize, b: usize, l: usize, o: usize, f: usize, x: usize, w: usize) -> Rooms
+    ensures { λ r. ⌜ r ≡ roomsOf a b l o f x w ⌝ }
+{
+    let matrices = areas::room_of(16, a);
+    let scales = areas::room_of(4, b);
+    let lights = areas::room_of(6, l);
+    let lookats = areas::room_of(6, o);
+    let fogs = areas::room_of(2, f);
+    let rows = lesser(areas::room_of(9, x), areas::room_of(10, w));
+    Rooms {
+        matrices: matrices,
+        scales: scales,
+        lights: lights,
+        lookats: lookats,
+        fogs: fogs,
+        rows: rows,
+    }
+}
+
+// The lowest table that has less room than it is to hold, or 0.
+fn short_table(c: Counts, m: More, r: Rooms) -> u32
+    ensures { λ k. ⌜ k ≡ firstShort (sixLent c m r) ⌝ }
+{
+    let t1 = Fill {
+        used: c.matrices,
+        more: m.matrices,
+        room: r.matrices,
+    };
+    let t3 = Fill {
+        used: c.scales,
+        more: m.scales,
+        room: r.scales,
+    };
+    let t4 = Fill {
+        used: c.lights,
+        more: m.lights,
+        room: r.lights,
+    };
+    let t5 = Fill {
+        used: c.lookats,
+        more: m.lookats,
+        room: r.lookats,
+    };
+    let t6 = Fill {
+        used: c.fogs,
+        more: m.fogs,
+        room: r.fogs,
+    };
+    let t7 = Fill {
+        used: c.rows,
+        more: m.rows,
+        room: r.rows,
+    };
+    decide::judge::first_short(t1, t3, t4, t5, t6, t7)
+}
+
+// The lights, folded with the model top m as entry n where that is due.
+fn lights_then(lights: Lights, due: bool, m: [f32; 16], n: u32) -> Lights
+    ensures { λ r. ⌜ r ≡ pick due (foldedLights lights m n) lights ⌝ }
+{
+    if !due {
+        return lights;
+    }
+    let mut l = lights;
+    l.changed = false;
+    l.folded = true;
+    l.top = m;
+    l.first = n;
+    l
+}
+
+// The lookat axes likewise.
+fn lookat_then(lookat: Lookat, due: bool, m: [f32; 16], n: u32) -> Lookat
+    ensures { λ r. ⌜ r ≡ pick due (foldedLookat lookat m n) lookat ⌝ }
+{
+    if !due {
+        return lookat;
+    }
+    let mut l = lookat;
+    l.changed = false;
+    l.folded = true;
+    l.top = m;
+    l.place = n;
+    l
+}
+
+impl State {
+    // The combined matrix in force: an undefined one is recomputed.
+    fn combined_now(self) -> [f32; 16]
+        requires { ⌜ (1 ≤ self .depth) × (self .depth ≤ 32) ⌝ }
+        ensures { λ r. ⌜ r ≡ combinedNow self ⌝ }
+    {
+        let m = self.combined;
+        if self.defined { m } else { self.product() }
+    }
+
+    // The decisions of a load, each once. Asks for what has been judged by then.
+    fn settled_by(self, matrices: &[f32], scales: &[f32], fogs: &[i16]) -> Settled
+        requires { ⌜ (1 ≤ self .depth) × (self .depth ≤ 32) ⌝ }
+        ensures { λ r. ⌜ r ≡ settled f3dex2 self (entries 16 (self .counts .matrices) (now (matrices .entry))) (entries 4 (self .counts .scales) (now (scales .entry))) (entries 2 (self .counts .fogs) (now (fogs .entry))) ⌝ }
+    {
+        let stack = self.stack;
+        let model = matrix::math::to_flat(decide::stack::top_of(stack, self.depth));
+        let combined = self.combined_now();
+        let entry = fold::scales::scales_of(self.texture.sc, self.texture.tc);
+        let lit = decide::geometry::is_lit(self.geometry);
+        let texgen = decide::geometry::texgen_mode(self.geometry);
+        let foggy = decide::judge::has_flag(0x10000, self.geometry);
+        let place = fold::fog::fog_place(fogs, self.counts.fogs, self.fogmul, self.fogoff);
+        let matrix = !self.defined
+            & !decide::append::last_is(matrices, 16, self.counts.matrices, &combined);
+        let scale = !fold::scales::scale_is(scales, self.counts.scales, entry);
+        let ltop = self.lights.top;
+        let light = lit
+            & fold::decision::folds(self.lights.folded, self.lights.changed, ltop, model);
+        let otop = self.lookat.top;
+        let look = (texgen != 0)
+            & fold::decision::folds(self.lookat.folded, self.lookat.changed, otop, model);
+        let fog = foggy & !(place < self.counts.fogs);
+        Settled {
+            combined: combined,
+            matrix: matrix,
+            scales: entry,
+            scale: scale,
+            model: model,
+            lit: lit,
+            light: light,
+            texgen: texgen,
+            look: look,
+            foggy: foggy,
+            fogat: place,
+            fog: fog,
+        }
+    }
+
+    // The state once the tables are settled, but for its counts.
+    fn settled_state(mut self, d: Settled) -> State
+        ensures { λ r. ⌜ r ≡ settledState d self ⌝ }
+    {
+        let combined = d.combined;
+        let model = d.model;
+        let lights = self.lights;
+        let lookat = self.lookat;
+        let l = lights_then(lights, d.light, model, self.counts.lights);
+        let o = lookat_then(lookat, d.look, model, self.counts.lookats);
+        self.combined = combined;
+        self.lights = l;
+        self.lookat = o;
+        self
+    }
+
+    // What every row of the load shares. Asks for counts in their ranges.
+    fn shared_by(self, d: Settled) -> Shared
+        requires { ⌜ Ranged self d ⌝ }
+        ensures { λ r. ⌜ r ≡ sharedBy d self ⌝ }
+    {
+        let v = self.viewport;
+        let n1 = self.counts.matrices;
+        let n3 = self.counts.scales;
+        let matrix = decide::number::less_one(decide::number::if_else(d.matrix, n1 + 1, n1));
+        let viewport = decide::number::less_one(self.counts.viewports);
+        let scale = decide::number::less_one(decide::number::if_else(d.scale, n3 + 1, n3));
+        let first = decide::number::if_else(d.light, self.counts.lights, self.lights.first);
+        let place = decide::number::if_else(d.look, self.counts.lookats, self.lookat.place);
+        let light = decide::number::if_else(d.lit, first, 0);
+        let lights = decide::number::if_else(d.lit, self.lights.number + 1, 0);
+        let fog = decide::number::if_else(d.foggy, d.fogat + 1, 0);
+        let lookat = decide::number::if_else(d.texgen == 0, 0, place);
+        Shared {
+            matrix: matrix,
+            viewport: viewport,
+            scale: scale,
+            light: light,
+            lights: lights,
+            texgen: d.texgen,
+            fog: fog,
+            lookat: lookat,
+            zscale: v[2],
+            ztranslation: v[5],
+        }
+    }
+
+    // The tables before the rows written: their counts then. Asks for counts and a light number in their ranges.
+    fn tables_written(
+        self,
+        d: Settled,
+        matrices: &mut [f32],
+        scales: &mut [f32],
+        lights: &mut [f32],
+        lookats: &mut [f32],
+        fogs: &mut [i16],
+    ) -> Counts
+        requires { ⌜ Ranged self d ⌝ }
+        ensures { λ r. ⌜ TablesAre d self (loadEdits d self []) r (now (matrices .entry)) (now (scales .entry)) (now (lights .entry)) (now (lookats .entry)) (now (fogs .entry)) (now (matrices .exit)) (now (scales .exit)) (now (lights .exit)) (now (lookats .exit)) (now (fogs .exit)) ⌝ }
+    {
+        let mut c = self.counts;
+        let combined = d.combined;
+        let entry = d.scales;
+        let model = d.model;
+        let m = matrix::math::from_flat(model);
+        let directions = self.lights.directions;
+        let colours = self.lights.colours;
+        let ambient = self.lights.ambient;
+        let axes = self.lookat.axes;
+        let n1 = decide::append::put_matrix_if(d.matrix, matrices, c.matrices, combined);
+        let n3 = decide::append::put_scales_if(d.scale, scales, c.scales, entry);
+        let n4 = fold::settle::lights_if(
+            d.light,
+            lights,
+            c.lights,
+            m,
+            directions,
+            colours,
+            ambient,
+            self.lights.number,
+        );
+        let n5 = fold::settle::lookat_if(d.look, lookats, c.lookats, m, axes);
+        let n6 = decide::append::put_fog_if(d.fog, fogs, c.fogs, self.fogmul, self.fogoff);
+        c.matrices = n1;
+        c.scales = n3;
+        c.lights = n4;
+        c.lookats = n5;
+        c.fogs = n6;
+        c
+    }
+
+    // How many entries the load appends to each table. Asks for a light number in its range.
+    fn more_by(self, d: Settled, count: u32) -> More
+        requires { ⌜ self .lights .number ≤ 7 ⌝ }
+        ensures { λ r. ⌜ r ≡ moreBy d self count ⌝ }
+    {
+        let matrices = decide::number::if_else(d.matrix, 1, 0);
+        let scales = decide::number::if_else(d.scale, 1, 0);
+        let lights = decide::number::if_else(d.light, self.lights.number + 1, 0);
+        let lookats = decide::number::if_else(d.look, 1, 0);
+        let fogs = decide::number::if_else(d.fog, 1, 0);
+        More {
+            matrices: matrices,
+            scales: scales,
+            lights: lights,
+            lookats: lookats,
+            fogs: fogs,
+            rows: count,
+        }
+    }
+
+    // Load: `count` vertices of 16 bytes into the slots from `first` on.
+    pub fn load(
+        self,
+        first: u32,
+        count: u32,
+        data: &[u8],
+        at: usize,
+        matrices: &mut [f32],
+        scales: &mut [f32],
+        lights: &mut [f32],
+        lookats: &mut [f32],
+        fogs: &mut [i16],
+        floats: &mut [f32],
+        words: &mut [u32],
+    ) -> Answered
+        ensures { λ r. ⌜ outcome r (loadAreas (now (matrices .exit)) (now (scales .exit)) (now (lights .exit)) (now (lookats .exit)) (now (fogs .exit)) (now (floats .exit)) (now (words .exit))) ≡ settle areasLoad (loadPlan f3dex2 256 self (loadTables (self .counts) (loadAreas (now (matrices .entry)) (now (scales .entry)) (now (lights .entry)) (now (lookats .entry)) (now (fogs .entry)) (now (floats .entry)) (now (words .entry)))) first count (now («data» .entry)) at) self (loadAreas (now (matrices .entry)) (now (scales .entry)) (now (lights .entry)) (now (lookats .entry)) (now (fogs .entry)) (now (floats .entry)) (now (words .entry))) ⌝ }
+    {
+        if !self.sound() {
+            return Answered {
+                state: self,
+                answer: Answer::BadState,
+            };
+        }
+        if !decide::judge::slots_there(256, first, count) {
+            return Answered {
+                state: self,
+                answer: Answer::BadLoad(count, first),
+            };
+        }
+        let need = 16 * count;
+        if !decide::judge::reaches(data.len(), at, need as usize) {
+            return Answered {
+                state: self,
+                answer: Answer::ShortData(need),
+            };
+        }
+        let rooms = rooms_of(
+            matrices.len(),
+            scales.len(),
+            lights.len(),
+            lookats.len(),
+            fogs.len(),
+            floats.len(),
+            words.len(),
+        );
+        let none = More {
+            matrices: 0,
+            scales: 0,
+            lights: 0,
+            lookats: 0,
+            fogs: 0,
+            rows: 0,
+        };
+        let short = short_table(self.counts, none, rooms);
+        if short != 0 {
+            return Answered {
+                state: self,
+                answer: Answer::ShortArea(short),
+            };
+        }
+        let d = self.settled_by(matrices, scales, fogs);
+        let full = short_table(self.counts, self.more_by(d, count), rooms);
+        if full != 0 {
+            return Answered {
+                state: self,
+                answer: Answer::NoRoom(full),
+            };
+        }
+        let notice = decide::number::if_else(self.defined, 0, 1);
+        let e = self.shared_by(d);
+        let combined = d.combined;
+        let m = matrix::math::from_flat(combined);
+        let mut counts = self.tables_written(d, matrices, scales, lights, lookats, fogs);
+        let s = self.settled_state(d);
+        let mut t = s.load_rows(
+            first as usize,
+            count as usize,
+            data,
+            at,
+            m,
+            e,
+            floats,
+            words,
+        );
+        counts.rows = counts.rows + count;
+        t.counts = counts;
+        Answered {
+            state: t,
+            answer: Answer::Told(notice),
+        }
+    }
+}

@@ -1,0 +1,87 @@
+// A loaded vertex: its row of table 7, and what its slot gets. Each is made from the vertex and from what the rows of a
+// load share; no state is here.
+ghost use mathlib.Core.Path.{_≡_};
+ghost use Prim.Native.Nat.{_+_, _≤_};
+ghost use lib.ListN.{length};
+ghost use Rattle.areas.specs.Area.{put};
+ghost use Rattle.vertex.specs.Vertices.{floatsWide, wordsWide, floatsOf, wordsOf, slotOf};
+use layout::records::Vertex;
+
+// How many numbers a row has in each of its two areas.
+pub const FLOATS: usize = 9;
+
+pub const WORDS: usize = 10;
+
+// What every row of a load shares: the numbers of its table entries, and the viewport's scale and translation for z.
+pub struct Shared {
+    pub matrix: u32,
+    pub viewport: u32,
+    pub scale: u32,
+    pub light: u32,
+    pub lights: u32,
+    pub texgen: u32,
+    pub fog: u32,
+    pub lookat: u32,
+    pub zscale: f32,
+    pub ztranslation: f32,
+}
+
+// What a slot gets: its clip code and its screen z, each with a mark that says whether there is one.
+pub struct Slot {
+    pub coded: bool,
+    pub code: u8,
+    pub deep: bool,
+    pub z: f64,
+}
+
+// The floats of the row of `v`, from place `at` on. Asks for their room, which is judged once for all rows of a load: a
+// test of each index would be paid at every number.
+pub fn store_floats(floats: &mut [f32], at: usize, v: Vertex)
+    requires { ⌜ at + floatsWide ≤ length (now floats) ⌝ }
+    ensures { λ _. ⌜ now (floats .exit) ≡ put (now (floats .entry)) at (floatsOf v) ⌝ }
+{
+    let pos = v.pos;
+    let st = v.st;
+    floats[at] = pos[0];
+    floats[at + 1] = pos[1];
+    floats[at + 2] = pos[2];
+    floats[at + 3] = st[0];
+    floats[at + 4] = st[1];
+    floats[at + 5] = 0.0;
+    floats[at + 6] = 0.0;
+    floats[at + 7] = 0.0;
+    floats[at + 8] = 0.0;
+}
+
+// The same for the words.
+pub fn store_words(words: &mut [u32], at: usize, e: Shared, v: Vertex)
+    requires { ⌜ at + wordsWide ≤ length (now words) ⌝ }
+    ensures { λ _. ⌜ now (words .exit) ≡ put (now (words .entry)) at (wordsOf e v) ⌝ }
+{
+    words[at] = 0;
+    words[at + 1] = e.matrix;
+    words[at + 2] = e.viewport;
+    words[at + 3] = e.scale;
+    words[at + 4] = v.colour;
+    words[at + 5] = e.light;
+    words[at + 6] = e.lights;
+    words[at + 7] = e.texgen;
+    words[at + 8] = e.fog;
+    words[at + 9] = e.lookat;
+}
+
+// What the slot of `v` gets, its position taken through m.
+pub fn slot_of(m: [[f32; 4]; 4], e: Shared, v: Vertex) -> Slot
+    ensures { λ r. ⌜ r ≡ slotOf m e v ⌝ }
+{
+    let pos = v.pos;
+    let p = matrix::math::mul_row_vec4([pos[0], pos[1], pos[2], 1.0], m);
+    let c = matrix::clip::clip_code(p);
+    let d = matrix::clip::screen_z(p, c.some, e.zscale, e.ztranslation);
+    Slot {
+        coded: c.some,
+        code: c.bits,
+        deep: d.some,
+        z: d.z,
+    }
+}
