@@ -1,7 +1,7 @@
 // The model stack and the geometry mode word.
 ghost use mathlib.Core.Path.{_≡_};
 ghost use Prim.Native.Nat.{_+_, _-_, _*_, _≤_};
-ghost use Rattle.matrix.specs.Math.{four, rows};
+ghost use Rattle.matrix.specs.Math.{rows};
 ghost use Rattle.decide.specs.Stack.{made, pushed, popped, geometryAfter, relit};
 ghost use Rattle.decide.specs.Family.{f3dex2};
 
@@ -30,26 +30,22 @@ pub fn popped_depth(count: u32, depth: u32) -> u32
     if count < depth { depth - count } else { 1 }
 }
 
-// Four numbers of the stack. Asks for a place that has them.
-fn four_of(stack: [f32; 512], at: usize) -> [f32; 4]
-    requires { ⌜ at + 4 ≤ 512 ⌝ }
-    ensures { λ r. ⌜ r ≡ four stack at ⌝ }
-{
-    let s = stack;
-    [s[at], s[at + 1], s[at + 2], s[at + 3]]
-}
-
 // The matrix on top of a stack of so many. Asks for a depth of the stack, since every other is refused before it is read.
+// Each number is read here: a helper that takes the stack costs a copy of it at each call.
 pub fn top_of(stack: [f32; 512], depth: u32) -> [[f32; 4]; 4]
     requires { ⌜ (1 ≤ depth) × (depth ≤ 32) ⌝ }
     ensures { λ r. ⌜ r ≡ rows stack (16 * (depth - 1)) ⌝ }
 {
-    let at = 16 * ((depth - 1) as usize);
+    let s = stack;
+    let a = 16 * ((depth - 1) as usize);
+    let b = a + 4;
+    let c = a + 8;
+    let d = a + 12;
     [
-        four_of(stack, at),
-        four_of(stack, at + 4),
-        four_of(stack, at + 8),
-        four_of(stack, at + 12),
+        [s[a], s[a + 1], s[a + 2], s[a + 3]],
+        [s[b], s[b + 1], s[b + 2], s[b + 3]],
+        [s[c], s[c + 1], s[c + 2], s[c + 3]],
+        [s[d], s[d + 1], s[d + 2], s[d + 3]],
     ]
 }
 
