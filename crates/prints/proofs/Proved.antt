@@ -1,23 +1,39 @@
 -- Document 01's cases, proved as a single table: each row by computation of the definitions that the contracts cite. Assumes nothing.
 use mathlib.Core.Path.{refl}
-use lib.Ieee.{toBits, add, mul, div, neg, lt, ne}
+use lib.Ieee.{toBits, add, mul, div, neg, lt, eq, ne}
 use Rattle.numbers.specs.Ratio.{ofRatio, isRatio}
 use Rattle.numbers.specs.Sqrt.{sqrt}
-use Rattle.matrix.specs.Math.{rowTimes}
+use Rattle.matrix.specs.Math.{rowTimes, times, rows, laid}
 use Rattle.matrix.specs.Clip.{codeOf, depthOf}
-use Rattle.layout.specs.Layout.{entryAt, tripleAt, viewportAt}
-use Rattle.prints.specs.Prints.{Prints}
+use Rattle.layout.specs.Layout.{entryAt, tripleAt, viewportAt, vertexAt}
+use Rattle.areas.specs.Area.{put, write, matches}
+use Rattle.decide.specs.Family.{texgenMode}
+use Rattle.decide.specs.Judge.{firstShort}
+use Rattle.decide.specs.Pick.{pick}
+use Rattle.fold.specs.Fog.{find}
+use Rattle.fold.specs.Scales.{sameScale}
+use Rattle.fold.specs.Decision.{refold}
+use Rattle.vertex.specs.Vertices.{floatsOf, wordsOf, clipOf, slotAt, slotOf, verticesAt}
+use Rattle.stage.specs.Plan.{unless, settle, appended, appending}
+use Rattle.stage.specs.Sound.{all, stateSound}
+use Rattle.stage.specs.Opening.{blank, openingPlan}
+use Rattle.stage.specs.Opening as opening
+use Rattle.stage.specs.Matrices.{viewing, viewportPlan}
+use Rattle.stage.specs.Load.{settled, settledState, sharedBy, loadEdits, loadPlan}
+use Rattle.stage.specs.Rows.{fillSlot, fillSlots}
+use Rattle.prints.specs.Prints.{Prints, loaded}
 
 pub prints : Prints
-unfolding ofRatio isRatio entryAt tripleAt viewportAt sqrt toBits rowTimes codeOf depthOf add mul div neg lt ne
+unfolding loaded ofRatio isRatio entryAt tripleAt viewportAt sqrt toBits rowTimes codeOf depthOf vertexAt put write matches texgenMode pick find sameScale refold floatsOf wordsOf clipOf slotAt slotOf verticesAt unless settle appended appending all stateSound blank openingPlan opening.opened viewing viewportPlan settled settledState sharedBy loadEdits loadPlan fillSlot fillSlots times rows laid add mul div neg lt ne
 prints =
     record {
       case1 = (refl, refl, refl);
       case3 = (refl, refl);
       case4 = (refl, refl);
       case5 = (refl, refl, refl);
+      case6 = (refl, refl, refl, refl);
       case7 = refl;
       case8 = (refl, refl, refl);
-      case9 = (refl, refl, refl);
+      case9 = ((refl, refl), (refl, refl), (refl, refl));
       case11 = (refl, refl);
     }

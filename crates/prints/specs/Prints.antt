@@ -1,16 +1,21 @@
 -- Document 01's cases as one table, a row for each, under the paper's number. `prints` of proofs/Proved.antt proves it whole.
 use mathlib.Core.Path.{_≡_}
-use mathlib.Core.Bool.{true}
+use mathlib.Core.Bool.{true, false}
 use mathlib.Core.List.{List, [], _∷_, _++_}
 use Prim.Native.Nat.{ℕ}
-use lib.ListN.{replicate}
+use lib.ListN.{replicate, getD}
 use lib.IntN.{ℤ, pos, negsuc}
 use lib.Ieee.{Float, binary32, binary64, toBits}
 use Rattle.numbers.specs.Ratio.{signed, ofRatio, isRatio}
 use Rattle.numbers.specs.Sqrt.{sqrt}
-use Rattle.matrix.specs.Math.{at, unit, rowTimes}
-use Rattle.matrix.specs.Clip.{codeOf, depthOf}
-use Rattle.matrix.specs.declared.clip.ScreenZ.{ScreenZ}
+use Rattle.matrix.specs.Math.{at}
+use Rattle.decide.specs.Family.{f3dex2}
+use Rattle.decide.specs.Lights.{lightNumber}
+use Rattle.stage.specs.declared.State.{State}
+use Rattle.stage.specs.Plan.{Outcome, settle, table}
+use Rattle.stage.specs.Opening.{zeros, blank, openingPlan, areas12}
+use Rattle.stage.specs.Matrices.{viewportPlan, area2}
+use Rattle.stage.specs.Load.{loadPlan, loadAreas, loadTables, areasLoad, LoadAreas}
 use Rattle.layout.specs.Layout.{entryAt, viewportAt}
 
 -- x is the fraction z / d, exactly
@@ -31,17 +36,32 @@ matrixBytes =
 abbrev pub viewportBytes : List ℕ
 viewportBytes = 0x02 ∷ 0x80 ∷ 0x01 ∷ 0xE0 ∷ 0x01 ∷ 0xFF ∷ replicate 10 0
 
--- the point x y z through the identity
-abbrev pub through : ℤ → ℤ → ℤ → List Float
-through x y z = rowTimes (whole x ∷ whole y ∷ whole z ∷ whole (pos 1) ∷ []) unit
+-- what opening comes to, with room for one entry in tables 1 and 2; and the state it hands back
+abbrev pub opening : Outcome (List Float × List Float)
+opening = settle areas12 (openingPlan (zeros 16) (zeros 6)) (blank false) (zeros 16, zeros 6)
 
--- its clip code is n
-abbrev pub Code : List Float → ℕ → Type 0
-Code p n = codeOf p ≡ record { some = true; bits = n }
+abbrev pub opened : State
+opened = opening .state
 
--- the screen z of the point p under a viewport whose z scale and translation are 511
-abbrev pub screen511 : List Float → ScreenZ
-screen511 p = depthOf p true (ofRatio binary32 (pos 511) 1024) (ofRatio binary32 (pos 511) 1024)
+-- the same with a viewport whose z scale and translation are 511
+abbrev pub viewing : State
+viewing = settle area2 (viewportPlan opened (table 6 1 (zeros 12)) (replicate 4 0 ++ (0x01 ∷ 0xFF ∷ replicate 6 0) ++ (0x01 ∷ 0xFF ∷ 0 ∷ 0 ∷ [])) 0) opened (zeros 12) .state
+
+-- table 1 as opening left it, and areas with room for one vertex
+abbrev pub lentAreas : LoadAreas
+lentAreas = loadAreas (opening .areas .0) (zeros 4) [] [] [] (zeros 9) (replicate 10 0)
+
+-- the state after one vertex of these bytes is loaded into slot 0
+unfoldable pub loaded : State → List ℕ → State
+loaded s bytes = settle areasLoad (loadPlan f3dex2 256 s (loadTables (s .counts) lentAreas) 0 1 bytes 0) s lentAreas .state
+
+-- the bytes of a vertex at a point of signed halves x, y, z
+abbrev pub pointBytes : ℕ → ℕ → ℕ → ℕ → ℕ → ℕ → List ℕ
+pointBytes a b c d e f = a ∷ b ∷ c ∷ d ∷ e ∷ f ∷ replicate 10 0
+
+-- slot 0 has the clip code n
+abbrev pub Code : State → ℕ → Type 0
+Code s n = (getD (s .coded) 0 false ≡ true) × (getD (s .code) 0 99 ≡ n)
 
 pub record Prints : Type 0 where
   -- 1. whole 1, fraction 0x8000: 1.5; whole -1: -0.5; 32767 and 65535: 32768
@@ -52,11 +72,13 @@ pub record Prints : Type 0 where
   pub case4 : Is (ofRatio binary32 (signed 16 0x0004) 4) (pos 1) 1 × Is (ofRatio binary32 (signed 16 0xFFFE) 4) (negsuc 0) 2
   -- 5. 0x1C with 16777217: 0.25, slot z 16777217/65536; with 0xFFFFFFFF: 64
   pub case5 : Is (ofRatio binary32 (pos 16777217) 67108864) (pos 1) 4 × Is (ofRatio binary64 (pos 16777217) 65536) (pos 16777217) 65536 × Is (ofRatio binary32 (pos 0xFFFFFFFF) 67108864) (pos 64) 1
+  -- 6. lights 23, 48, 191, 500: 0, 2, 7, 7
+  pub case6 : (lightNumber 23 ≡ 0) × (lightNumber 48 ≡ 2) × (lightNumber 191 ≡ 7) × (lightNumber 500 ≡ 7)
   -- 7. square root of 2.0f: bits 0x3FB504F3
   pub case7 : toBits binary32 (sqrt binary32 (whole (pos 2))) ≡ 0x3FB504F3
   -- 8. viewport scale 640, 480, 511: 160, 120, 0.4990234375
   pub case8 : Is (at (viewportAt viewportBytes 0 .scale) 0) (pos 160) 1 × Is (at (viewportAt viewportBytes 0 .scale) 1) (pos 120) 1 × Is (at (viewportAt viewportBytes 0 .scale) 2) (pos 4990234375) 10000000000
   -- 9. identity, points (1,0,0), (2,0,0), (2,-3,4): codes 0, 2, 38
-  pub case9 : Code (through (pos 1) (pos 0) (pos 0)) 0 × Code (through (pos 2) (pos 0) (pos 0)) 2 × Code (through (pos 2) (negsuc 2) (pos 4)) 38
+  pub case9 : Code (loaded opened (pointBytes 0 1 0 0 0 0)) 0 × Code (loaded opened (pointBytes 0 2 0 0 0 0)) 2 × Code (loaded opened (pointBytes 0 2 0xFF 0xFD 0 4)) 38
   -- 11. point (0,0,1), z scale and translation 511: screen z 1022
-  pub case11 : (screen511 (through (pos 0) (pos 0) (pos 1)) .some ≡ true) × Is (screen511 (through (pos 0) (pos 0) (pos 1)) .z) (pos 1022) 1
+  pub case11 : (getD (loaded viewing (pointBytes 0 0 0 0 0 1) .deep) 0 false ≡ true) × Is (at (loaded viewing (pointBytes 0 0 0 0 0 1) .z) 0) (pos 1022) 1
