@@ -1,11 +1,17 @@
 pub mod Apart
 pub mod Appends
 pub mod Cascade
+pub mod Changes
 pub mod Combining
+pub mod Culling
+pub mod Drawing
 pub mod Filling
 pub mod Judged
 pub mod Lighting
 pub mod Loading
+pub mod Modifying
+pub mod RowEntries
 pub mod Settling
 pub mod Tabled
 pub mod Turning
+pub mod Verdicts

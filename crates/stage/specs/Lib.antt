@@ -1,7 +1,9 @@
 pub mod Answers
+pub mod Draw
 pub mod Lights
 pub mod Load
 pub mod Matrices
+pub mod Modify
 pub mod Opening
 pub mod Plan
 pub mod Rows

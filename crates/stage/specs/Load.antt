@@ -27,7 +27,7 @@ use Rattle.stage.specs.declared.Lookat.{Lookat}
 use Rattle.stage.specs.declared.load.Settled.{Settled}
 use Rattle.stage.specs.declared.load.More.{More}
 use Rattle.stage.specs.declared.load.Rooms.{Rooms}
-use Rattle.stage.specs.Plan.{Table, Edit, keep, grow, patch, Row, Edits, Plan, unless, pick, does, lent, judge, needs, counted, after, untouched, table, rowTable}
+use Rattle.stage.specs.Plan.{Table, Edit, keep, grow, Row, Edits, Plan, unless, pick, does, lent, judge, needs, counted, after, untouched, table, rowTable, rowFloats, rowWords, only}
 use Rattle.stage.specs.Sound.{sound}
 use Rattle.stage.specs.Matrices.{top}
 use Rattle.stage.specs.Rows.{fillSlots}
@@ -203,17 +203,7 @@ pub record LoadAreas : Type 0 where
   pub floats : List Float
   pub words : List ℕ
 
--- the edits of table 7's two areas
-abbrev pub rowFloats : Edit Row → Edit (List Float)
-rowFloats keep = keep
-rowFloats (grow rs) = grow (map (λ r. r .floats) rs)
-rowFloats (patch i r) = patch i (r .floats)
-
-abbrev pub rowWords : Edit Row → Edit (List ℕ)
-rowWords keep = keep
-rowWords (grow rs) = grow (map (λ r. r .words) rs)
-rowWords (patch i r) = patch i (r .words)
-
+-- the areas of load
 abbrev pub areasLoad : Counts → Edits → LoadAreas → LoadAreas
 areasLoad c e l =
     record {
@@ -222,8 +212,8 @@ areasLoad c e l =
       lights = after 6 (c .lights) (e .lights) (l .lights);
       lookats = after 6 (c .lookats) (e .lookats) (l .lookats);
       fogs = after 2 (c .fogs) (e .fogs) (l .fogs);
-      floats = after 9 (c .rows) (rowFloats (e .rows)) (l .floats);
-      words = after 10 (c .rows) (rowWords (e .rows)) (l .words);
+      floats = after 9 (c .rows) (only rowFloats (e .rows)) (l .floats);
+      words = after 10 (c .rows) (only rowWords (e .rows)) (l .words);
     }
 
 -- the areas, and the tables in them for the counts c

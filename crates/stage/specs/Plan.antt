@@ -2,7 +2,7 @@
 -- arguments alone, and what the state, the answer and the areas are after it. Definitions only.
 use Prim.Native.Nat.{ℕ, _+_, min}
 use mathlib.Core.Bool.{Bool, true, false}
-use mathlib.Core.List.{List, [], _∷_}
+use mathlib.Core.List.{List, [], _∷_, map}
 use lib.ListN.{length}
 use lib.IntN.{ℤ}
 use lib.Dec.{leb}
@@ -48,6 +48,19 @@ rowsOf (f ∷ fs) (w ∷ ws) = record { floats = f; words = w } ∷ rowsOf fs ws
 -- table 7 of n rows in use, in the areas f and w; the lesser room counts
 abbrev pub rowTable : ℕ → List Float → List ℕ → Table Row
 rowTable n f w = record { used = rowsOf (entries 9 n f) (entries 10 n w); room = min (room 9 (length f)) (room 10 (length w)) }
+
+-- the numbers of one kind of a row
+abbrev pub rowFloats : Row → List Float
+rowFloats r = r .floats
+
+abbrev pub rowWords : Row → List ℕ
+rowWords r = r .words
+
+-- an edit of rows, as an edit of one of their two areas: f gives the numbers of one kind
+abbrev pub only : {E F : Type 0} → (E → F) → Edit E → Edit F
+only f keep = keep
+only f (grow es) = grow (map f es)
+only f (patch i e) = patch i (f e)
 
 -- what a command does to each table, 1 to 9
 pub record Edits : Type 0 where

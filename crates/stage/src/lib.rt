@@ -1,6 +1,8 @@
 // The geometry stage: its state, its answers and its commands, a file for each module of the port.
+pub mod draw;
 pub mod load;
 pub mod matrices;
+pub mod modify;
 pub mod rows;
 pub mod settings;
 

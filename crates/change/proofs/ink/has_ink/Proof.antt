@@ -1,0 +1,22 @@
+-- `change::ink::has_ink` meets its contract. Assumes nothing.
+use Prim.Native.Nat.{ℕ}
+use native.Mathlib.Omega.{arith}
+use Rattle.change.proofs.Storing.{part-at}
+use borrow.Author.Needs.{needs}
+use Rattle.change.proofs.ink.has_ink.Statement.{statement}
+use Rattle.change.proofs.ink.has_ink.Tie as tie
+
+add-result : tie.Need-add-result
+add-result c = search needs
+
+mul-result : tie.Need-mul-result
+mul-result c = search needs
+
+shared-slice-read-result : tie.Need-shared-slice-read-result
+shared-slice-read-result c = search needs
+
+returns : tie.Need-returns
+returns c = rw (part-at {A = ℕ} _ _ 10 4 0 (omega arith))
+
+pub has-ink-spec : {M : Type 1} → statement M
+has-ink-spec = tie.close (tie.spec add-result mul-result shared-slice-read-result returns)

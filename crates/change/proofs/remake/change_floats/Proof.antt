@@ -1,0 +1,121 @@
+-- `change::remake::change_floats` meets its contract. Assumes nothing.
+use lib.ListN.{length-set}
+use native.Mathlib.Omega.{arith}
+use Rattle.change.specs.Decoded.{floatsAfter}
+use Rattle.change.proofs.Storing.{unstored, stored}
+use borrow.Author.Needs.{needs}
+use Rattle.change.proofs.remake.change_floats.Statement.{statement}
+use Rattle.change.proofs.remake.change_floats.Tie as tie
+
+enum-told : tie.Need-enum-told
+enum-told c = search needs
+
+enum-known-c : tie.Need-enum-known-c
+enum-known-c c = search needs
+
+add-floats : tie.Need-add-floats
+add-floats c = search needs
+
+mul-floats : tie.Need-mul-floats
+mul-floats c = search needs
+
+slice-write-floats : tie.Need-slice-write-floats
+slice-write-floats c = search needs
+
+add-floats-2 : tie.Need-add-floats-2
+add-floats-2 c = search needs
+
+mul-floats-2 : tie.Need-mul-floats-2
+mul-floats-2 c = search needs
+
+slice-write-floats-2 : tie.Need-slice-write-floats-2
+slice-write-floats-2 c = simp length-set (omega arith)
+
+enum-known-c-2 : tie.Need-enum-known-c-2
+enum-known-c-2 c = search needs
+
+add-floats-3 : tie.Need-add-floats-3
+add-floats-3 c = search needs
+
+mul-floats-3 : tie.Need-mul-floats-3
+mul-floats-3 c = search needs
+
+slice-write-floats-3 : tie.Need-slice-write-floats-3
+slice-write-floats-3 c = search needs
+
+add-floats-4 : tie.Need-add-floats-4
+add-floats-4 c = search needs
+
+mul-floats-4 : tie.Need-mul-floats-4
+mul-floats-4 c = search needs
+
+slice-write-floats-4 : tie.Need-slice-write-floats-4
+slice-write-floats-4 c = simp length-set (omega arith)
+
+enum-known-c-3 : tie.Need-enum-known-c-3
+enum-known-c-3 c = search needs
+
+add-floats-5 : tie.Need-add-floats-5
+add-floats-5 c = search needs
+
+mul-floats-5 : tie.Need-mul-floats-5
+mul-floats-5 c = search needs
+
+slice-write-floats-5 : tie.Need-slice-write-floats-5
+slice-write-floats-5 c = search needs
+
+returns : tie.Need-returns
+unfolding floatsAfter
+returns c = rw (c .enum-told .given .1) (unstored _ _ 9 (c .before .before .pre) .same)
+
+same-length : tie.Need-same-length
+same-length c = search needs
+
+returns-2 : tie.Need-returns-2
+unfolding floatsAfter
+returns-2 c = rw (c .before .c .given .1) (stored 4 _ (stored 3 _ (unstored _ _ 9 (c .before .before .before .pre)) (omega arith)) (omega arith) .same)
+
+same-length-2 : tie.Need-same-length-2
+same-length-2 c = search needs
+
+returns-3 : tie.Need-returns-3
+unfolding floatsAfter
+returns-3 c = rw (c .before .c2 .given .1) (stored 6 _ (stored 5 _ (unstored _ _ 9 (c .before .before .before .pre)) (omega arith)) (omega arith) .same)
+
+same-length-3 : tie.Need-same-length-3
+same-length-3 c = search needs
+
+returns-4 : tie.Need-returns-4
+unfolding floatsAfter
+returns-4 c = rw (c .before .c3 .given .1) (stored 7 _ (unstored _ _ 9 (c .before .before .before .pre)) (omega arith) .same)
+
+pub change-floats-spec : {M : Type 1} → statement M
+change-floats-spec =
+    tie.close
+    (tie.spec
+    enum-told
+    enum-known-c
+    add-floats
+    mul-floats
+    slice-write-floats
+    add-floats-2
+    mul-floats-2
+    slice-write-floats-2
+    enum-known-c-2
+    add-floats-3
+    mul-floats-3
+    slice-write-floats-3
+    add-floats-4
+    mul-floats-4
+    slice-write-floats-4
+    enum-known-c-3
+    add-floats-5
+    mul-floats-5
+    slice-write-floats-5
+    returns
+    same-length
+    returns-2
+    same-length-2
+    returns-3
+    same-length-3
+    returns-4)

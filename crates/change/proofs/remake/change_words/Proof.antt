@@ -1,0 +1,182 @@
+-- `change::remake::change_words` meets its contract. Assumes nothing.
+use lib.ListN.{length-set}
+use lib.Bits.{bitOr}
+use native.Mathlib.Omega.{arith}
+use Rattle.change.specs.Decoded.{wordsAfter}
+use Rattle.change.proofs.Storing.{unstored, stored, first}
+use borrow.Author.Needs.{needs}
+use Rattle.change.proofs.remake.change_words.Statement.{statement}
+use Rattle.change.proofs.remake.change_words.Tie as tie
+
+enum-known-c : tie.Need-enum-known-c
+enum-known-c c = search needs
+
+add-words : tie.Need-add-words
+add-words c = search needs
+
+mul-words : tie.Need-mul-words
+mul-words c = search needs
+
+slice-write-words : tie.Need-slice-write-words
+slice-write-words c = search needs
+
+add-words-2 : tie.Need-add-words-2
+add-words-2 c = search needs
+
+mul-words-2 : tie.Need-mul-words-2
+mul-words-2 c = search needs
+
+slice-write-words-2 : tie.Need-slice-write-words-2
+slice-write-words-2 c = simp length-set (omega arith)
+
+add-words-3 : tie.Need-add-words-3
+add-words-3 c = search needs
+
+mul-words-3 : tie.Need-mul-words-3
+mul-words-3 c = search needs
+
+slice-write-words-3 : tie.Need-slice-write-words-3
+slice-write-words-3 c = simp length-set (omega arith)
+
+add-words-4 : tie.Need-add-words-4
+add-words-4 c = search needs
+
+mul-words-4 : tie.Need-mul-words-4
+mul-words-4 c = search needs
+
+slice-write-words-4 : tie.Need-slice-write-words-4
+slice-write-words-4 c = simp length-set (omega arith)
+
+enum-told : tie.Need-enum-told
+enum-told c = search needs
+
+add-words-5 : tie.Need-add-words-5
+add-words-5 c = search needs
+
+mul-words-5 : tie.Need-mul-words-5
+mul-words-5 c = search needs
+
+slice-write-words-5 : tie.Need-slice-write-words-5
+slice-write-words-5 c = search needs
+
+add-words-6 : tie.Need-add-words-6
+add-words-6 c = search needs
+
+mul-words-6 : tie.Need-mul-words-6
+mul-words-6 c = search needs
+
+slice-write-words-6 : tie.Need-slice-write-words-6
+slice-write-words-6 c = simp length-set (omega arith)
+
+add-words-7 : tie.Need-add-words-7
+add-words-7 c = search needs
+
+mul-words-7 : tie.Need-mul-words-7
+mul-words-7 c = search needs
+
+slice-write-words-7 : tie.Need-slice-write-words-7
+slice-write-words-7 c = simp length-set (omega arith)
+
+enum-told-2 : tie.Need-enum-told-2
+enum-told-2 c = search needs
+
+mul-words-8 : tie.Need-mul-words-8
+mul-words-8 c = search needs
+
+slice-read-words : tie.Need-slice-read-words
+slice-read-words c = search needs
+
+mul-words-9 : tie.Need-mul-words-9
+mul-words-9 c = search needs
+
+slice-write-words-8 : tie.Need-slice-write-words-8
+slice-write-words-8 c = search needs
+
+enum-told-3 : tie.Need-enum-told-3
+enum-told-3 c = search needs
+
+mul-words-10 : tie.Need-mul-words-10
+mul-words-10 c = search needs
+
+slice-read-words-2 : tie.Need-slice-read-words-2
+slice-read-words-2 c = search needs
+
+mul-words-11 : tie.Need-mul-words-11
+mul-words-11 c = search needs
+
+slice-write-words-9 : tie.Need-slice-write-words-9
+slice-write-words-9 c = search needs
+
+same-length : tie.Need-same-length
+same-length c = search needs
+
+returns : tie.Need-returns
+unfolding wordsAfter
+returns c = rw (c .before .c .given .1) (stored 8 _ (stored 6 _ (stored 5 _ (stored 4 _ (unstored _ _ 10 (c .before .before .before .pre)) (omega arith)) (omega arith)) (omega arith)) (omega arith) .same)
+
+same-length-2 : tie.Need-same-length-2
+same-length-2 c = search needs
+
+returns-2 : tie.Need-returns-2
+unfolding wordsAfter
+returns-2 c = rw (c .enum-told .given .1) (stored 9 _ (stored 7 _ (stored 3 _ (unstored _ _ 10 (c .before .before .pre)) (omega arith)) (omega arith)) (omega arith) .same)
+
+same-length-3 : tie.Need-same-length-3
+same-length-3 c = search needs
+
+returns-3 : tie.Need-returns-3
+unfolding wordsAfter
+returns-3 c = rw (c .before .enum-told2 .given .1) (first _ _ 10 0 (λ x. bitOr x 1) (c .before .before .before .pre) (omega arith))
+
+same-length-4 : tie.Need-same-length-4
+same-length-4 c = search needs
+
+returns-4 : tie.Need-returns-4
+unfolding wordsAfter
+returns-4 c = rw (c .before .enum-told3 .given .1) (first _ _ 10 0 (λ x. bitOr x 2) (c .before .before .before .pre) (omega arith))
+
+pub change-words-spec : {M : Type 1} → statement M
+change-words-spec =
+    tie.close
+    (tie.spec
+    enum-known-c
+    add-words
+    mul-words
+    slice-write-words
+    add-words-2
+    mul-words-2
+    slice-write-words-2
+    add-words-3
+    mul-words-3
+    slice-write-words-3
+    add-words-4
+    mul-words-4
+    slice-write-words-4
+    enum-told
+    add-words-5
+    mul-words-5
+    slice-write-words-5
+    add-words-6
+    mul-words-6
+    slice-write-words-6
+    add-words-7
+    mul-words-7
+    slice-write-words-7
+    enum-told-2
+    mul-words-8
+    slice-read-words
+    mul-words-9
+    slice-write-words-8
+    enum-told-3
+    mul-words-10
+    slice-read-words-2
+    mul-words-11
+    slice-write-words-9
+    same-length
+    returns
+    same-length-2
+    returns-2
+    same-length-3
+    returns-3
+    same-length-4
+    returns-4)

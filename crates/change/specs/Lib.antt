@@ -1,0 +1,3 @@
+pub mod Decoded
+pub mod Ink
+pub mod Judged

@@ -1,0 +1,127 @@
+// A row written anew with a change: in its place, or in a copy behind all rows in use.
+ghost use mathlib.Core.Path.{_≡_};
+ghost use mathlib.Core.Bool.{cond};
+ghost use mathlib.Core.List.{[], _∷_};
+ghost use Prim.Native.Nat.{_+_, _-_, _*_, _≤_};
+ghost use lib.Dec.{ltb};
+ghost use lib.ListN.{length};
+ghost use Rattle.areas.specs.Area.{part, put, write};
+ghost use Rattle.change.specs.Decoded.{floatsAfter, wordsAfter, floatWidth, wordWidth};
+ghost use Rattle.change.specs.Judged.{unitEntry};
+use crate::Change;
+use crate::FLOATS;
+use crate::WORDS;
+
+// The change made in the f32 numbers of the row at place `at`. Asks for a row that lies in the area: its room has been
+// judged before anything is written.
+pub fn change_floats(floats: &mut [f32], at: usize, c: Change)
+    requires { ⌜ at + floatWidth ≤ length (now floats) ⌝ }
+    ensures { λ _. ⌜ now (floats .exit) ≡ put (now (floats .entry)) at (floatsAfter c (part (now (floats .entry)) at floatWidth)) ⌝ }
+{
+    match c {
+        Change::Colour(_) => {}
+        Change::Texture(s, t) => {
+            floats[at + 3] = s;
+            floats[at + 4] = t;
+        }
+        Change::Screen(x, y) => {
+            floats[at + 5] = x;
+            floats[at + 6] = y;
+        }
+        Change::Depth(z, _) => {
+            floats[at + 7] = z;
+        }
+    }
+}
+
+// The same in the u32 numbers; `unit` is the place of the unit scale entry.
+pub fn change_words(words: &mut [u32], at: usize, unit: u32, c: Change)
+    requires { ⌜ at + wordWidth ≤ length (now words) ⌝ }
+    ensures { λ _. ⌜ now (words .exit) ≡ put (now (words .entry)) at (wordsAfter c unit (part (now (words .entry)) at wordWidth)) ⌝ }
+{
+    match c {
+        Change::Colour(word) => {
+            words[at + 4] = word;
+            words[at + 5] = 0;
+            words[at + 6] = 0;
+            words[at + 8] = 0;
+        }
+        Change::Texture(_, _) => {
+            words[at + 3] = unit;
+            words[at + 7] = 0;
+            words[at + 9] = 0;
+        }
+        Change::Screen(_, _) => {
+            words[at] = words[at] | 1;
+        }
+        Change::Depth(_, _) => {
+            words[at] = words[at] | 2;
+        }
+    }
+}
+
+// The place for which a mark stands: one less, and 0 where there is none.
+fn place_of(unit: u32) -> u32
+    ensures { λ r. ⌜ r ≡ unit - 1 ⌝ }
+{
+    if unit == 0 { 0 } else { unit - 1 }
+}
+
+// The f32 numbers of row `from` copied to row `to`, which is the same row or one behind all rows in use. Asks for that,
+// and for rows that lie in the area, since both have been judged by then.
+fn copy_floats(floats: &mut [f32], from: u32, to: u32)
+    requires { ⌜ (from ≤ to) × (to * floatWidth + floatWidth ≤ length (now floats)) ⌝ }
+    ensures { λ _. ⌜ now (floats .exit) ≡ put (now (floats .entry)) (to * floatWidth) (part (now (floats .entry)) (from * floatWidth) floatWidth) ⌝ }
+{
+    if from < to {
+        areas::copy_f32(
+            floats,
+            areas::place(FLOATS, from),
+            areas::place(FLOATS, to),
+            FLOATS as usize,
+        );
+    }
+}
+
+// The same for the u32 numbers.
+fn copy_words(words: &mut [u32], from: u32, to: u32)
+    requires { ⌜ (from ≤ to) × (to * wordWidth + wordWidth ≤ length (now words)) ⌝ }
+    ensures { λ _. ⌜ now (words .exit) ≡ put (now (words .entry)) (to * wordWidth) (part (now (words .entry)) (from * wordWidth) wordWidth) ⌝ }
+{
+    if from < to {
+        areas::copy_u32(
+            words,
+            areas::place(WORDS, from),
+            areas::place(WORDS, to),
+            WORDS as usize,
+        );
+    }
+}
+
+// The f32 numbers of row `from`, with the change, written as those of row `to`. Asks for what a copy asks for.
+pub fn remake_floats(floats: &mut [f32], from: u32, to: u32, c: Change)
+    requires { ⌜ (from ≤ to) × (to * floatWidth + floatWidth ≤ length (now floats)) ⌝ }
+    ensures { λ _. ⌜ now (floats .exit) ≡ write floatWidth to (floatsAfter c (part (now (floats .entry)) (from * floatWidth) floatWidth) ∷ []) (now (floats .entry)) ⌝ }
+{
+    copy_floats(floats, from, to);
+    change_floats(floats, areas::place(FLOATS, to), c);
+}
+
+// The same for the u32 numbers; `unit` is the place of the unit scale entry plus 1, or 0 where there is none.
+pub fn remake_words(words: &mut [u32], from: u32, to: u32, unit: u32, c: Change)
+    requires { ⌜ (from ≤ to) × (to * wordWidth + wordWidth ≤ length (now words)) ⌝ }
+    ensures { λ _. ⌜ now (words .exit) ≡ write wordWidth to (wordsAfter c (unit - 1) (part (now (words .entry)) (from * wordWidth) wordWidth) ∷ []) (now (words .entry)) ⌝ }
+{
+    copy_words(words, from, to);
+    change_words(words, areas::place(WORDS, to), place_of(unit), c);
+}
+
+// The unit scale entry written behind those in use, where there is to be one more.
+pub fn append_unit(scales: &mut [f32], used: u32, then: u32)
+    ensures { λ _. ⌜ now (scales .exit) ≡ cond (ltb used «then») (write 4 used (unitEntry ∷ []) (now (scales .entry))) (now (scales .entry)) ⌝ }
+{
+    if used < then {
+        let entry = [1.0f32, 1.0, 0.0, 0.0];
+        areas::put_f32(scales, areas::place(4, used), &entry);
+    }
+}

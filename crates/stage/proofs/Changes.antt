@@ -1,0 +1,144 @@
+-- The plan of a modify is what its judge's verdict stands for. Assumes nothing.
+use mathlib.Core.Path.{_≡_, refl, sym, _∙_}
+use Prim.Native.Nat.{ℕ, _+_, _-_, _*_, _≤_, _<_}
+use native.Mathlib.Nat.{add-zero}
+use native.Mathlib.Omega.{arith}
+use mathlib.Core.Bool.{Bool, true, false, cond}
+use mathlib.Core.List.{List, [], _∷_}
+use lib.ListN.{length, getD}
+use lib.Dec.{ltb}
+use lib.Ieee.{Float}
+use borrow.Author.Tests.{lt-ltb, le-ltb}
+use Rattle.areas.specs.Area.{room, part, write}
+use Rattle.areas.proofs.Tables.{length-entries}
+use Rattle.change.specs.declared.Change.{Change}
+use Rattle.change.specs.declared.Asked.{Asked}
+use Rattle.change.specs.declared.Asked.the-variants.{Known, Unknown}
+use Rattle.change.specs.declared.judge.Tables.{Tables}
+use Rattle.change.specs.declared.judge.Moved.{Moved}
+use Rattle.change.specs.declared.judge.Refusal.{Refusal}
+use Rattle.change.specs.declared.judge.Refusal.the-variants.{NoRow, Short, Full}
+use Rattle.change.specs.declared.judge.Refusal.the-variants as refusal
+use Rattle.change.specs.declared.judge.Verdict.{Verdict}
+use Rattle.change.specs.declared.judge.Verdict.the-variants.{No, Go}
+use Rattle.change.specs.Decoded.{floatsAfter, wordsAfter}
+use Rattle.change.specs.Judged.{unitEntry, appends, comesTo, except, roomy, judged}
+use Rattle.change.proofs.Accepted.{through}
+use Rattle.stage.specs.declared.State.{State}
+use Rattle.stage.specs.declared.Answer.the-variants.{Done}
+use Rattle.stage.specs.Answers.{number, values}
+use Rattle.stage.specs.Plan.{Table, Edit, keep, grow, patch, Row, Plan, refuse, does, unless, pick, more, table, outcome, settle, rowTable}
+use Rattle.stage.specs.Sound.{sound}
+use Rattle.stage.specs.With.{withCounts}
+use Rattle.stage.specs.Modify.{areas37, edits37, answerOf, slotOf, tablesOf, asking, scaleEdit, rowEdit, rowChange, changed, countsTo, changePlan}
+use Rattle.stage.proofs.RowEntries.{length-rows, row-at, rows-in}
+
+-- one entry appended, or none, as a count has it
+grown : {E : Type 0} (b : Bool) (n : ℕ) (x : E) (e : Edit E) → more e ≡ 0 → n + more (pick b (grow (x ∷ [])) e) ≡ cond b (n + 1) n
+unfolding pick
+grown true n x e h = refl
+grown false n x e h = rw (h, add-zero)
+
+-- the count tells whether one is appended
+tells : (b : Bool) (n : ℕ) → ltb n (cond b (n + 1) n) ≡ b
+tells true n = lt-ltb n (n + 1) (omega arith)
+tells false n = le-ltb n n (omega arith)
+
+-- the plan that a verdict stands for
+abbrev pub planned : State → Table Row → ℕ → ℕ → Verdict → Plan
+planned s rows slot attribute (No r) = refuse (number (answerOf slot attribute r)) (values (answerOf slot attribute r))
+planned s rows slot attribute (Go c m) = does [] (changed c m s slot) (edits37 (scaleEdit c s) (rowChange c m s rows slot))
+
+-- a test of the judge is the same test of the plan
+step : (s : State) (rows : Table Row) (slot attribute : ℕ) (a b : Bool) (r : Refusal) (v : Verdict) (p : Plan) → a ≡ b → p ≡ planned s rows slot attribute v
+    → unless b (number (answerOf slot attribute r)) (values (answerOf slot attribute r)) p ≡ planned s rows slot attribute (except a r v)
+unfolding except unless
+step s rows slot attribute a b r v p e h = rw e (by b)
+  where
+    by : (b : Bool) → unless b (number (answerOf slot attribute r)) (values (answerOf slot attribute r)) p ≡ planned s rows slot attribute (except b r v)
+    by true = h
+    by false = refl
+
+-- what the numbers of an accepted change come to in the state's counts and in the areas, by whether an entry is appended to table 3 and to table 7
+settled : (a d : Bool) (i : ℕ) (r : Row) (s t : State) (l f : List Float) (w : List ℕ)
+    → let n3 = s .counts .scales in
+    let n7 = s .counts .rows in
+    let m : Moved = record { row = cond d n7 i; rows = cond d (n7 + 1) n7; scales = cond a (n3 + 1) n3; unit = 0 } in
+    outcome (record { state = withCounts t (countsTo m (s .counts)); answer = Done }) (cond a (write 4 n3 (unitEntry ∷ []) l) l, write 9 (m .row) (r .floats ∷ []) f, write 10 (m .row) (r .words ∷ []) w)
+    ≡ settle areas37 (does [] t (edits37 (pick a (grow (unitEntry ∷ [])) keep) (rowEdit d i r))) s (l, f, w)
+unfolding pick settle
+settled true true i r s t l f w = refl
+settled true false i r s t l f w = refl
+settled false true i r s t l f w = refl
+settled false false i r s t l f w = refl
+
+-- the verdict x on what the code looks at of a slot that there is
+pub looked : (slots : ℕ) (s : State) (slot : ℕ) (k j : Asked) (t u : Tables) (v x : Verdict) → slot < slots → k ≡ j → t ≡ u
+    → v ≡ judged k (record { loaded = getD (s .loaded) slot false; drawn = getD (s .drawn) slot false; row = getD (s .row) slot 0 }) t → v ≡ x → judged j (slotOf slots s slot) u ≡ x
+looked slots s slot k j t u v x h ek et e d = rw (lt-ltb slot slots h, ← ek, ← et) (sym e ∙ d)
+
+-- the judge's verdict on a change asked for, and what is planned once the state is sound
+abbrev pub verdict : ℕ → State → List Float → List Float → List ℕ → ℕ → Asked → Verdict
+verdict slots s l f w slot k = judged k (slotOf slots s slot) (tablesOf s (table 4 (s .counts .scales) l) (rowTable (s .counts .rows) f w))
+
+abbrev pub plan : ℕ → State → List Float → List Float → List ℕ → ℕ → ℕ → Asked → Plan
+plan slots s l f w slot attribute k = asking k slot attribute (changePlan slots s (table 4 (s .counts .scales) l) (rowTable (s .counts .rows) f w) slot attribute)
+
+-- the row that an accepted change writes stands at the slot's row or behind it, and lies in both areas
+pub written : (slots : ℕ) (s : State) (l f : List Float) (w : List ℕ) (slot : ℕ) (k : Asked) (c : Change) (m : Moved) → verdict slots s l f w slot k ≡ Go c m
+    → (getD (s .row) slot 0 ≤ m .row) × (m .row * 9 + 9 ≤ length f) × (m .row * 10 + 10 ≤ length w)
+written slots s l f w slot k c m e =
+    let t = through k _ _ c m e in
+    let h = rows-in (m .row + 1) (length f) (length w) _ refl (t .room) in
+    (t .behind, omega (arith, h .0), omega (arith, h .1))
+
+module _ (slots : ℕ) (s : State) (l f : List Float) (w : List ℕ) (slot attribute : ℕ) where
+  -- THE PLAN OF A MODIFY IS WHAT THE VERDICT STANDS FOR
+  pub verdict-plan : (k : Asked) → plan slots s l f w slot attribute k ≡ planned s (rowTable (s .counts .rows) f w) slot attribute (verdict slots s l f w slot k)
+  unfolding asking changePlan judged roomy comesTo
+  verdict-plan Unknown = refl
+  verdict-plan (Known c) =
+      let n7 = s .counts .rows in
+      let go = step s (rowTable n7 f w) slot attribute in
+      go _ _ refusal.Unknown _ _ refl
+      (go _ _ NoRow _ _ refl
+      (go _ _ (Short 3) _ _ (rw (length-entries, add-zero))
+      (go _ _ (Short 7) _ _ (rw (length-rows n7 f w, add-zero))
+      (go _ _ (Full 3) _ _ (rw (length-entries, grown (appends c (s .unit)) (s .counts .scales) unitEntry keep refl))
+      (go _ _ (Full 7) _ _ (rw (length-rows n7 f w, grown (getD (s .drawn) slot false) n7 _ (patch (getD (s .row) slot 0) _) refl)) refl)))))
+
+  -- a slot that there is not is refused, whatever is asked
+  pub no-slot : (k : Asked) → slots ≤ slot → verdict slots s l f w slot k ≡ No refusal.Unknown
+  unfolding judged except
+  no-slot Unknown h = refl
+  no-slot (Known c) h = rw (le-ltb slot slots h)
+
+  -- a refusal of the judge is what the plan comes to
+  pub refused-by : (k : Asked) (r : Refusal) → verdict slots s l f w slot k ≡ No r
+      → outcome (record { state = s; answer = answerOf slot attribute r }) (l, f, w) ≡ settle areas37 (plan slots s l f w slot attribute k) s (l, f, w)
+  unfolding settle
+  refused-by k r e = rw (verdict-plan k, e)
+
+  module _ (k : Asked) (c : Change) (m : Moved) (e : verdict slots s l f w slot k ≡ Go c m) where
+    -- an accepted change: the state t and the areas x, y and z are those of the plan, where the leaves have left them so
+    pub accepted : (t : State) (x y : List Float) (z : List ℕ)
+        → x ≡ cond (ltb (s .counts .scales) (m .scales)) (write 4 (s .counts .scales) (unitEntry ∷ []) l) l
+        → y ≡ write 9 (m .row) (floatsAfter c (part f (getD (s .row) slot 0 * 9) 9) ∷ []) f
+        → z ≡ write 10 (m .row) (wordsAfter c (m .unit - 1) (part w (getD (s .row) slot 0 * 10) 10) ∷ []) w
+        → t ≡ withCounts (changed c m s slot) (countsTo m (s .counts))
+        → outcome (record { state = t; answer = Done }) (x, y, z) ≡ settle areas37 (plan slots s l f w slot attribute k) s (l, f, w)
+    unfolding comesTo
+    accepted t x y z ex ey ez et =
+        let h = through k _ _ c m e in
+        rw (
+          verdict-plan k,
+          e,
+          et,
+          ex,
+          ey,
+          ez,
+          h .comes,
+          tells (appends c (s .unit)) (s .counts .scales),
+          row-at (s .counts .rows) f w (getD (s .row) slot 0) (h .row),
+        )
+        (settled (appends c (s .unit)) (getD (s .drawn) slot false) (getD (s .row) slot 0) _ s _ l f w)

@@ -1,0 +1,73 @@
+-- The cull test slot by slot, and what a test tells. Assumes nothing.
+use mathlib.Core.Path.{_≡_, refl, sym, _∙_}
+use Prim.Native.Nat.{ℕ, _+_, _-_, _≤_, _<_, suc}
+use native.Mathlib.Omega.{arith}
+use mathlib.Core.Bool.{Bool, true, false, not, _&&_, and-eq-true-iff, false≢true}
+use mathlib.Core.List.{[], _∷_}
+use lib.Bits.{bitAnd}
+use lib.Dec.{eqb, leb, ltb}
+use lib.ListN.{getD}
+use borrow.Author.Tests.{ltb-true}
+use Rattle.triangle.specs.Slot.{bit}
+use Rattle.stage.specs.declared.State.{State}
+use Rattle.stage.specs.declared.Answer.{Answer}
+use Rattle.stage.specs.declared.Answer.the-variants.{Told, NotLoaded, NoCode}
+use Rattle.stage.specs.Plan.{Plan, does, unless, pick, untouched, nothing, outcome, settle}
+use Rattle.stage.specs.Draw.{slotsTo, judgeCodes, codesOf, anded, culled}
+
+-- a test hands back the state as given, and tells its value
+pub told : (s : State) (v w : ℕ) → v ≡ w → outcome (record { state = s; answer = Told v }) tt ≡ settle nothing (does (w ∷ []) s untouched) s tt
+unfolding settle
+told s v w e = rw e
+
+slots-next : (i last : ℕ) → i ≤ last → slotsTo i last ≡ i ∷ slotsTo (i + 1) last
+slots-next i last h =
+    let e : last + 1 - i ≡ suc (last + 1 - (i + 1)) = omega arith in
+    rw e
+
+slots-none : (i last : ℕ) → last < i → slotsTo i last ≡ []
+slots-none i last h = let e : last + 1 - i ≡ 0 = omega arith in rw e
+
+-- the refusal of a slot that does not have both marks
+stopped : (s : State) (i : ℕ) (l c : Bool) (p : Plan) → l && c ≡ false
+    → outcome (record { state = s; answer = pick l (NoCode i) (NotLoaded i) }) tt ≡ settle nothing (unless l 3 (i ∷ []) (unless c 4 (i ∷ []) p)) s tt
+unfolding unless pick settle
+stopped s i false c p e = refl
+stopped s i true false p e = refl
+stopped s i true true p e = absurd (false≢true (sym e))
+
+-- what is left of the cull test at slot i, where m is the AND of the codes before it
+unfoldable pub rest : State → ℕ → ℕ → ℕ → Plan
+rest s last m i = judgeCodes s (slotsTo i last) (does (bit (not (eqb (anded m (codesOf s (slotsTo i last))) 0)) ∷ []) s untouched)
+
+-- the slots before i are passed: what is left decides. The last is one of the 256
+pub record Walking (s : State) (first last m i : ℕ) : Type 0 where
+  pub same : rest s last 0x0f first ≡ rest s last m i
+  pub few : last < 256
+
+-- no slot is passed yet
+pub walk-none : (s : State) (first last : ℕ) → leb first last && ltb last 256 ≡ true → Walking s first last 0x0f first
+walk-none s first last h = record { same = refl; few = ltb-true last 256 (and-eq-true-iff (leb first last) (ltb last 256) .0 h .1) }
+
+module _ (s : State) (first last m i : ℕ) (w : Walking s first last m i) where
+  -- one more slot is loaded and has a code
+  pub walk-more : i ≤ last → getD (s .loaded) i false && getD (s .coded) i false ≡ true → Walking s first last (bitAnd m (getD (s .code) i 0)) (i + 1)
+  unfolding rest unless
+  walk-more h e =
+      let both = and-eq-true-iff (getD (s .loaded) i false) (getD (s .coded) i false) .0 e in
+      record { same = w .same ∙ rw (slots-next i last h, both .0, both .1); few = w .few }
+
+  -- a slot is not loaded, or has no code
+  pub walk-stops : i ≤ last → getD (s .loaded) i false && getD (s .coded) i false ≡ false → (a : Answer) → a ≡ pick (getD (s .loaded) i false) (NoCode i) (NotLoaded i)
+      → outcome (record { state = s; answer = a }) tt ≡ settle nothing (rest s last 0x0f first) s tt
+  unfolding rest
+  walk-stops h e a q = rw (w .same, q, slots-next i last h) (stopped s i _ _ _ e)
+
+  -- no slot is left
+  pub walk-ends : last < i → (v : ℕ) → v ≡ bit (not (eqb m 0)) → outcome (record { state = s; answer = Told v }) tt ≡ settle nothing (rest s last 0x0f first) s tt
+  unfolding rest
+  walk-ends h v e = rw (w .same, slots-none i last h) (told s v (bit (not (eqb m 0))) e)
+
+-- codes 34 and 32: not culled, since 34 AND 32 AND 15 is 0
+pub not-culled : culled (34 ∷ 32 ∷ []) ≡ false
+not-culled = refl

@@ -1,0 +1,106 @@
+use Prim.Native.Nat.{_+_, _-_}
+use native.Mathlib.Omega.{arith}
+use borrow.Author.Needs.{needs}
+use borrow.Author.Tests.{not-true, not-false}
+use Rattle.stage.proofs.Cascade.{fails, holds, refused, passed}
+use Rattle.stage.proofs.Culling.{rest, Walking, walk-none, walk-more, walk-stops, walk-ends}
+use Rattle.stage.specs.declared.Answer.the-variants.{BadState, BadCull}
+use Rattle.stage.specs.Plan.{nothing}
+use Rattle.stage.specs.Draw.{cullPlan}
+use Rattle.stage.proofs.State.cull_display_list.Statement.{statement}
+use Rattle.stage.proofs.State.cull_display_list.Tie as tie
+
+abbrev Inv-loop : tie.InvT-loop
+Inv-loop self first last loaded coded code common₀ i₀ common i = Walking self first last common i
+
+abbrev μ-loop : tie.MeasureT-loop
+μ-loop self first last loaded coded code common₀ i₀ common i = last + 1 - i
+
+sound-requires : tie.Need-sound-requires Inv-loop μ-loop
+sound-requires c κs = search needs
+
+returns : tie.Need-returns Inv-loop μ-loop
+unfolding cullPlan
+returns c = refused nothing _ _ _ _ BadState (fails (c .before .sound .ensures) (c .if1 .taken))
+
+returns-2 : tie.Need-returns-2 Inv-loop μ-loop
+unfolding cullPlan
+returns-2 c =
+    let e1 = c .before in
+    let a = e1 .before .before .args in
+    passed nothing _ _ _ _ _ _ _ (holds (e1 .before .sound .ensures) (e1 .if1 .left))
+    (refused nothing _ _ _ _ (BadCull (a .first) (a .last)) (not-true _ (c .if2 .taken)))
+
+loop-holds : tie.Need-loop-holds Inv-loop μ-loop
+loop-holds c = walk-none _ _ _ (not-false _ (c .before .before .before .if2 .left))
+
+cast-k : tie.Need-cast-k Inv-loop μ-loop
+cast-k c = search needs
+
+array-read-if3 : tie.Need-array-read-if3 Inv-loop μ-loop
+array-read-if3 c = omega arith
+
+array-read-if3-2 : tie.Need-array-read-if3-2 Inv-loop μ-loop
+array-read-if3-2 c = omega arith
+
+array-read-uncoded : tie.Need-array-read-uncoded Inv-loop μ-loop
+array-read-uncoded c = omega arith
+
+uncoded-requires : tie.Need-uncoded-requires Inv-loop μ-loop
+uncoded-requires c κs = search needs
+
+returns-3 : tie.Need-returns-3 Inv-loop μ-loop
+unfolding cullPlan rest
+returns-3 c =
+    let e2 = c .before .before .before .before .before .before .before in
+    let e1 = e2 .before in
+    passed nothing _ _ _ _ _ _ _ (holds (e1 .before .sound .ensures) (e1 .if1 .left))
+    (passed nothing _ _ _ _ _ _ _ (not-false _ (e2 .if2 .left))
+    (walk-stops _ _ _ _ _ (c .before .before .before .loop .inv) (c .before .before .loop-test .taken) (not-true _ (c .before .if3 .taken)) _ (c .uncoded .ensures)))
+
+array-read-common : tie.Need-array-read-common Inv-loop μ-loop
+array-read-common c = omega arith
+
+add-i : tie.Need-add-i Inv-loop μ-loop
+add-i c = omega arith
+
+loop-less : tie.Need-loop-less Inv-loop μ-loop
+loop-less c = omega arith
+
+loop-again : tie.Need-loop-again Inv-loop μ-loop
+loop-again c = walk-more _ _ _ _ _ (c .before .before .loop .inv) (c .before .loop-test .taken) (not-false _ (c .if3 .left))
+
+word-of-requires : tie.Need-word-of-requires Inv-loop μ-loop
+word-of-requires c κs = search needs
+
+returns-4 : tie.Need-returns-4 Inv-loop μ-loop
+unfolding cullPlan rest
+returns-4 c =
+    let e2 = c .before .before .before .before .before .before in
+    let e1 = e2 .before in
+    passed nothing _ _ _ _ _ _ _ (holds (e1 .before .sound .ensures) (e1 .if1 .left))
+    (passed nothing _ _ _ _ _ _ _ (not-false _ (e2 .if2 .left))
+    (walk-ends _ _ _ _ _ (c .before .before .loop .inv) (c .before .loop-test .left) _ (c .word-of .ensures)))
+
+pub cull-display-list-spec : {M : Type 1} → statement M
+cull-display-list-spec =
+    tie.close
+    (tie.spec
+    Inv-loop
+    μ-loop
+    sound-requires
+    returns
+    returns-2
+    loop-holds
+    cast-k
+    array-read-if3
+    array-read-if3-2
+    array-read-uncoded
+    uncoded-requires
+    returns-3
+    array-read-common
+    add-i
+    loop-less
+    loop-again
+    word-of-requires
+    returns-4)

@@ -1,0 +1,205 @@
+use Rattle.stage.proofs.Verdicts.{judgement, verdict-is, has-room, run-written, draws, draws-nothing}
+use mathlib.Core.Path.{refl, ap, _∙_, _≡_}
+use Rattle.areas.proofs.Tables.{length-put}
+use lib.ListN.{length}
+use mathlib.Core.Logic.{⊎-elim}
+use Rattle.triangle.proofs.Recording.{Rooms}
+use native.Mathlib.Omega.{arith}
+use Prim.Native.Nat.{ℕ}
+use mathlib.Core.List.{List, [], _∷_}
+use denote.Ref.{now}
+use Rattle.decide.specs.Family.{f3dex2}
+use borrow.Author.Needs.{needs}
+use Rattle.stage.proofs.State.draw_tri.Statement.{statement}
+use Rattle.stage.proofs.State.draw_tri.Tie as tie
+
+-- the caller's four numbers
+abbrev asked : tie.Start → List ℕ
+asked c = c .args .material ∷ c .args .render-mode ∷ c .args .fog-colour ∷ c .args .prim-depth ∷ []
+
+-- the verdict is the one that the laws speak of
+found : (e : tie.After-judge) →
+    let s = e .before .before .before .before .before .before .before .before .before .before .before .before .before .before .before in
+    e .judge .result ≡ judgement f3dex2 256 (s .args .self) (now (s .args .indices)) (now (s .args .runs)) (s .args .a) (s .args .b) (s .args .c) (asked s) refl
+found e =
+    verdict-is f3dex2 256 _ _ _ _ _ _ _ _ _ _ _ _ _ _ _ _ _ _ _
+    (e .before .before .before .before .before .sides-of .ensures)
+    (e .before .before .before .before .before .before .before .before .before .corner-at .ensures)
+    (e .before .before .before .before .before .before .before .before .corner-at2 .ensures)
+    (e .before .before .before .before .before .before .before .corner-at3 .ensures)
+    (e .before .before .before .before .before .before .tables-of .ensures)
+    (e .before .before .before .before .settings-of .ensures)
+    (e .before .before .last-run .ensures)
+    (e .before .sound .ensures)
+    (e .judge .ensures)
+
+-- a recorded triangle has room
+accepted : (e : tie.After-v) →
+    let a = e .before .before .before .before .before .before .before .before .before .before .before .before .before .before .before .before .before .args in
+    Rooms (a .self .counts .indices) (a .self .counts .runs) (e .v .given .0 .0) (length (now (a .indices))) (length (now (a .runs)))
+accepted e =
+    let s = e .before .before .before .before .before .before .before .before .before .before .before .before .before .before .before .before .before in
+    has-room f3dex2 256 _ _ _ _ _ _ (asked s) refl _ _ _ _ (found (e .before .before)) (e .v .given .1)
+
+cast-i : tie.Need-cast-i
+cast-i c = search needs
+
+cast-j : tie.Need-cast-j
+cast-j c = search needs
+
+cast-k : tie.Need-cast-k
+cast-k c = search needs
+
+array-read-corner-at : tie.Need-array-read-corner-at
+array-read-corner-at c = search needs
+
+mul-corner-at : tie.Need-mul-corner-at
+mul-corner-at c = search needs
+
+array-read-corner-at-2 : tie.Need-array-read-corner-at-2
+array-read-corner-at-2 c = search needs
+
+corner-at-requires : tie.Need-corner-at-requires
+corner-at-requires c κs = search needs
+
+array-read-corner-at-3 : tie.Need-array-read-corner-at-3
+array-read-corner-at-3 c = search needs
+
+mul-corner-at-2 : tie.Need-mul-corner-at-2
+mul-corner-at-2 c = search needs
+
+array-read-corner-at-4 : tie.Need-array-read-corner-at-4
+array-read-corner-at-4 c = search needs
+
+corner-at-requires-2 : tie.Need-corner-at-requires-2
+corner-at-requires-2 c κs = search needs
+
+array-read-corner-at-5 : tie.Need-array-read-corner-at-5
+array-read-corner-at-5 c = search needs
+
+mul-corner-at-3 : tie.Need-mul-corner-at-3
+mul-corner-at-3 c = search needs
+
+array-read-corner-at-6 : tie.Need-array-read-corner-at-6
+array-read-corner-at-6 c = search needs
+
+corner-at-requires-3 : tie.Need-corner-at-requires-3
+corner-at-requires-3 c κs = search needs
+
+tables-of-requires : tie.Need-tables-of-requires
+tables-of-requires c κs = search needs
+
+sides-of-requires : tie.Need-sides-of-requires
+sides-of-requires c κs = search needs
+
+settings-of-requires : tie.Need-settings-of-requires
+settings-of-requires c κs = search needs
+
+last-run-requires : tie.Need-last-run-requires
+last-run-requires c κs = search needs
+
+sound-requires : tie.Need-sound-requires
+sound-requires c κs = search needs
+
+judge-requires : tie.Need-judge-requires
+judge-requires c κs = search needs
+
+enum-known-v : tie.Need-enum-known-v
+enum-known-v c = search needs
+
+array-write-drawn : tie.Need-array-write-drawn
+array-write-drawn c = search needs
+
+array-write-drawn-2 : tie.Need-array-write-drawn-2
+array-write-drawn-2 c = search needs
+
+array-write-drawn-3 : tie.Need-array-write-drawn-3
+array-write-drawn-3 c = search needs
+
+cast-put-corners : tie.Need-cast-put-corners
+cast-put-corners c = omega (arith, accepted (c .before .before))
+
+put-corners-requires : tie.Need-put-corners-requires
+put-corners-requires c κs = accepted (c .before .before) .index-end
+
+add-place : tie.Need-add-place
+add-place c = omega (arith, accepted (c .before .before .before .before .before .before))
+
+sub-place : tie.Need-sub-place
+sub-place c = accepted (c .before .before .before .before .before .before) .run-some
+
+place-requires : tie.Need-place-requires
+place-requires c κs = search needs
+
+put-run-requires : tie.Need-put-run-requires
+put-run-requires c κs = rw (c .place .ensures) (accepted (c .before .before .before .before .before .before .before) .run-end)
+
+add-indexed : tie.Need-add-indexed
+add-indexed c = omega (arith, accepted (c .before .before .before .before .before .before .before .before .before .before))
+
+add-recorded : tie.Need-add-recorded
+add-recorded c = omega (arith, accepted (c .before .before .before .before .before .before .before .before .before .before))
+
+answer-of-requires : tie.Need-answer-of-requires
+answer-of-requires c κs = search needs
+
+same-length : tie.Need-same-length
+same-length c = ⊎-elim (λ w. ap length (w .15 ∙ w .4 .ensures) ∙ length-put _ _ _) (λ w. ap length (w .2)) (c .before .match .came)
+
+same-length-2 : tie.Need-same-length-2
+same-length-2 c = ⊎-elim (λ w. ap length (w .16 ∙ w .9 .ensures) ∙ length-put _ _ _) (λ w. ap length (w .3)) (c .before .match .came)
+
+returns : tie.Need-returns
+returns c =
+    let e = c .before .before in
+    let s = e .before .before .before .before .before .before .before .before .before .before .before .before .before .before .before in
+    let sides = e .before .before .before .before .before .sides-of .ensures in
+    ⊎-elim
+    (λ w. draws f3dex2 256 (s .args .self) (now (s .args .indices)) (now (s .args .runs)) _ _ _ (asked s) refl _ _ _ _ (found e) (w .1 .given .1) _ (w .14)
+    _ (w .15 ∙ w .4 .ensures ∙ rw (sides, e .before .before .before .before .before .before .before .before .before .corner-at .ensures, e .before .before .before .before .before .before .before .before .corner-at2 .ensures, e .before .before .before .before .before .before .before .corner-at3 .ensures))
+    _ (run-written f3dex2 (s .args .self) (now (s .args .runs)) (asked s) _ _ _ _ _ _ _ sides (e .before .before .before .before .settings-of .ensures) (w .8 .ensures) (w .16 ∙ w .9 .ensures))
+    _ (w .17) _ (c .answer-of .ensures))
+    (λ w. draws-nothing f3dex2 256 (s .args .self) (now (s .args .indices)) (now (s .args .runs)) _ _ _ (asked s) refl _ _ _ _ _ _ (found e) (w .0 .keys2) (w .1) (w .2) (w .3) (w .4) (c .answer-of .ensures))
+    (c .before .match .came)
+
+pub draw-tri-spec : {M : Type 1} → statement M
+draw-tri-spec =
+    tie.close
+    (tie.spec
+    cast-i
+    cast-j
+    cast-k
+    array-read-corner-at
+    mul-corner-at
+    array-read-corner-at-2
+    corner-at-requires
+    array-read-corner-at-3
+    mul-corner-at-2
+    array-read-corner-at-4
+    corner-at-requires-2
+    array-read-corner-at-5
+    mul-corner-at-3
+    array-read-corner-at-6
+    corner-at-requires-3
+    tables-of-requires
+    sides-of-requires
+    settings-of-requires
+    last-run-requires
+    sound-requires
+    judge-requires
+    enum-known-v
+    array-write-drawn
+    array-write-drawn-2
+    array-write-drawn-3
+    cast-put-corners
+    put-corners-requires
+    add-place
+    sub-place
+    place-requires
+    put-run-requires
+    add-indexed
+    add-recorded
+    answer-of-requires
+    same-length
+    same-length-2
+    returns)

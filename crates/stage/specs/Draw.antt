@@ -1,0 +1,138 @@
+-- The meaning of the cull test, the depth test and draw, of port order 6. The number of slots is a parameter. Definitions only.
+use Prim.Native.Nat.{ℕ, zero, suc, _+_, _-_}
+use mathlib.Core.Bool.{Bool, true, false, not, _&&_}
+use mathlib.Core.List.{List, [], _∷_, map}
+use lib.ListN.{length, getD, set}
+use lib.Bits.{bitAnd}
+use lib.Dec.{eqb, leb, ltb}
+use lib.IntN.{pos}
+use lib.Ieee.{nan, le, binary64}
+use Rattle.decide.specs.Append.{final}
+use Rattle.decide.specs.Family.{Family}
+use Rattle.numbers.specs.Ratio.{ofRatio}
+use Rattle.triangle.specs.Run.{settings, runOf, longer, closed, sameRun}
+use Rattle.triangle.specs.Slot.{bit, held, corners, both, culls, swaps}
+use Rattle.triangle.specs.declared.verdict.Verdict.{Verdict}
+use Rattle.triangle.specs.declared.verdict.Verdict.the-variants.{Unsound, Nothing, Never, Short, Full, Record}
+use Rattle.stage.specs.declared.State.{State}
+use Rattle.stage.specs.declared.Counts.{Counts}
+use Rattle.stage.specs.declared.Answer.{Answer}
+use Rattle.stage.specs.declared.Answer.the-variants.{Done, NeverLoaded, ShortArea, NoRoom, BadState}
+use Rattle.stage.specs.Plan.{Table, Edit, keep, grow, patch, Edits, Plan, does, unless, pick, lent, judge, after, untouched}
+use Rattle.stage.specs.Sound.{sound}
+use Rattle.stage.specs.With.{withDrawn}
+
+-- ---- cull test
+
+-- n slots in order, from slot i on
+abbrev pub slotsFrom : ℕ → ℕ → List ℕ
+slotsFrom i zero = []
+slotsFrom i (suc n) = i ∷ slotsFrom (i + 1) n
+
+-- the slots first to last
+abbrev pub slotsTo : ℕ → ℕ → List ℕ
+slotsTo first last = slotsFrom first (last + 1 - first)
+
+-- the slots in turn: 3 where one is not loaded, 4 where it has no clip code
+abbrev pub judgeCodes : State → List ℕ → Plan → Plan
+judgeCodes s [] p = p
+judgeCodes s (i ∷ is) p =
+    unless (getD (s .loaded) i false) 3 (i ∷ [])
+    (unless (getD (s .coded) i false) 4 (i ∷ [])
+    (judgeCodes s is p))
+
+-- the clip codes of some slots
+abbrev pub codesOf : State → List ℕ → List ℕ
+codesOf s is = map (λ (i : ℕ). getD (s .code) i 0) is
+
+-- the AND of some codes with m
+abbrev pub anded : ℕ → List ℕ → ℕ
+anded m [] = m
+anded m (c ∷ cs) = anded (bitAnd m c) cs
+
+-- the AND of all codes with 0x0f is not 0: all lie outside one of the four side planes
+abbrev pub culled : List ℕ → Bool
+culled cs = not (eqb (anded 0x0f cs) 0)
+
+-- Cull: slots in order, first refusal wins; yes exactly if they are culled
+unfoldable pub cullPlan : ℕ → State → ℕ → ℕ → Plan
+cullPlan slots s first last =
+    sound s
+    (unless (leb first last && ltb last slots) 2 (first ∷ last ∷ [])
+    (judgeCodes s (slotsTo first last)
+    (does (bit (culled (codesOf s (slotsTo first last))) ∷ []) s untouched)))
+
+-- ---- depth test
+
+-- the slot's screen z is at most threshold/65536
+abbrev pub near : State → ℕ → ℕ → Bool
+near s slot threshold = le (getD (s .z) slot nan) (ofRatio binary64 (pos threshold) 65536)
+
+-- Depth test: yes exactly if the slot's screen z is at most threshold/65536
+unfoldable pub depthPlan : ℕ → State → ℕ → ℕ → Plan
+depthPlan slots s slot threshold =
+    sound s
+    (unless (held slots (s .loaded) slot) 3 (slot ∷ [])
+    (unless (getD (s .deep) slot false) 4 (slot ∷ [])
+    (does (bit (near s slot threshold) ∷ []) s untouched)))
+
+-- ---- draw
+
+-- edits of tables 8 and 9 alone
+abbrev pub edits89 : Edit (List ℕ) → Edit (List ℕ) → Edits
+edits89 e r =
+    record { matrices = keep; viewports = keep; scales = keep; lights = keep; lookats = keep; fogs = keep; rows = keep; indices = e; runs = r }
+
+-- the areas of a command that is lent tables 8 and 9
+abbrev pub areas89 : Counts → Edits → List ℕ × List ℕ → List ℕ × List ℕ
+areas89 c e l = (after 1 (c .indices) (e .indices) (l .0), after 8 (c .runs) (e .runs) (l .1))
+
+-- 6 with the first of some slots that was never loaded since opening
+abbrev pub judgeEver : ℕ → State → List ℕ → Plan → Plan
+judgeEver slots s [] p = p
+judgeEver slots s (i ∷ is) p = unless (held slots (s .ever) i) 6 (i ∷ []) (judgeEver slots s is p)
+
+-- the row of a slot
+abbrev pub rowOf : State → ℕ → ℕ
+rowOf s i = getD (s .row) i 0
+
+-- the rows of some slots are below the row count
+abbrev pub placed : State → List ℕ → Bool
+placed s [] = true
+placed s (i ∷ is) = ltb (rowOf s i) (s .counts .rows) && placed s is
+
+-- marks with those of some slots set
+abbrev pub mark : List Bool → List ℕ → List Bool
+mark d [] = d
+mark d (i ∷ is) = mark (set d i true) is
+
+-- what table 8 gets: the rows of the three slots, a and c exchanged where the front only is culled
+abbrev pub triangle : Family → State → ℕ → ℕ → ℕ → List (List ℕ)
+triangle f s a b c = map (λ (r : ℕ). r ∷ []) (corners (swaps f (s .geometry)) (rowOf s a) (rowOf s b) (rowOf s c))
+
+-- what table 9 gets: the last run grows by 3 if its six settings match, else a run is appended, of 3 from index n on
+unfoldable pub runEdit : List (List ℕ) → ℕ → List ℕ → Edit (List ℕ)
+runEdit us n q = pick (sameRun us q) (patch (length us - 1) (longer (final us))) (grow (runOf q n 3 ∷ []))
+
+-- Draw: slots a, b, c, and the caller's material, render mode, fog colour and primitive depth
+unfoldable pub drawPlan : Family → ℕ → State → Table (List ℕ) → Table (List ℕ) → ℕ → ℕ → ℕ → List ℕ → Plan
+drawPlan f slots s t u a b c asked =
+    let e = grow (triangle f s a b c) in
+    let r = runEdit (u .used) (length (t .used)) (settings asked (culls f (s .geometry)) (s .microcode)) in
+    sound s
+    (pick (both f (s .geometry)) (does [] s untouched)
+    (judgeEver slots s (a ∷ b ∷ c ∷ [])
+    (unless (placed s (a ∷ b ∷ c ∷ [])) 10 []
+    (judge 8 (lent 8 t keep ∷ lent 9 u keep ∷ [])
+    (unless (closed (u .used) (length (t .used))) 10 []
+    (judge 9 (lent 8 t e ∷ lent 9 u r ∷ [])
+    (does [] (withDrawn s (mark (s .drawn) (a ∷ b ∷ c ∷ []))) (edits89 e r))))))))
+
+-- the answer that a verdict stands for
+abbrev pub answerOf : Verdict → Answer
+answerOf Unsound = BadState
+answerOf Nothing = Done
+answerOf (Never slot) = NeverLoaded slot
+answerOf (Short table) = ShortArea table
+answerOf (Full table) = NoRoom table
+answerOf (Record more start count) = Done

@@ -1,0 +1,162 @@
+// The cull test, the depth test and draw.
+ghost use mathlib.Core.Path.{_≡_};
+ghost use mathlib.Core.List.{[], _∷_};
+ghost use Rattle.decide.specs.Family.{f3dex2};
+ghost use Rattle.stage.specs.Plan.{outcome, settle, table, nothing, pick};
+ghost use Rattle.stage.specs.declared.Answer.the-variants.{NotLoaded, NoCode};
+ghost use Rattle.stage.specs.Draw.{cullPlan, depthPlan, areas89, drawPlan, answerOf};
+use crate::Answer;
+use crate::Answered;
+use crate::State;
+use triangle::run;
+use triangle::slot;
+use triangle::verdict;
+use triangle::verdict::Verdict;
+
+// The refusal of a slot that is not loaded, or has no clip code.
+fn uncoded(loaded: bool, slot: u32) -> Answer
+    ensures { λ r. ⌜ r ≡ pick loaded (NoCode slot) (NotLoaded slot) ⌝ }
+{
+    if loaded {
+        Answer::NoCode(slot)
+    } else {
+        Answer::NotLoaded(slot)
+    }
+}
+
+// The answer of a draw.
+fn answer_of(v: Verdict) -> Answer
+    ensures { λ r. ⌜ r ≡ answerOf v ⌝ }
+{
+    match v {
+        Verdict::Unsound => Answer::BadState,
+        Verdict::Nothing => Answer::Done,
+        Verdict::Never(slot) => Answer::NeverLoaded(slot),
+        Verdict::Short(table) => Answer::ShortArea(table),
+        Verdict::Full(table) => Answer::NoRoom(table),
+        Verdict::Record(more, start, count) => Answer::Done,
+    }
+}
+
+impl State {
+    // Cull test: 1 where the slots first to last all lie outside one of the four side planes, else 0.
+    pub fn cull_display_list(self, first: u32, last: u32) -> Answered
+        ensures { λ r. ⌜ outcome r tt ≡ settle nothing (cullPlan 256 self first last) self tt ⌝ }
+    {
+        if !self.sound() {
+            return Answered {
+                state: self,
+                answer: Answer::BadState,
+            };
+        }
+        if !((first <= last) & (last < 256)) {
+            return Answered {
+                state: self,
+                answer: Answer::BadCull(first, last),
+            };
+        }
+        let loaded = self.loaded;
+        let coded = self.coded;
+        let code = self.code;
+        let mut common: u8 = 0x0f;
+        let mut i = first;
+        while i <= last {
+            let k = i as usize;
+            if !(loaded[k] & coded[k]) {
+                return Answered {
+                    state: self,
+                    answer: uncoded(loaded[k], i),
+                };
+            }
+            common = common & code[k];
+            i = i + 1;
+        }
+        Answered {
+            state: self,
+            answer: Answer::Told(slot::word_of(common != 0)),
+        }
+    }
+
+    // Depth test: 1 where the slot's screen z is at most the threshold over 65536, else 0.
+    pub fn branch_z(self, slot: u32, threshold: u32) -> Answered
+        ensures { λ r. ⌜ outcome r tt ≡ settle nothing (depthPlan 256 self slot threshold) self tt ⌝ }
+    {
+        if !self.sound() {
+            return Answered {
+                state: self,
+                answer: Answer::BadState,
+            };
+        }
+        let loaded = self.loaded;
+        let deep = self.deep;
+        let z = self.z;
+        let i = (slot % 256) as usize;
+        if !((slot < 256) & loaded[i]) {
+            return Answered {
+                state: self,
+                answer: Answer::NotLoaded(slot),
+            };
+        }
+        if !deep[i] {
+            return Answered {
+                state: self,
+                answer: Answer::NoCode(slot),
+            };
+        }
+        let most = numbers::ratio::wide_by_65536(threshold);
+        Answered {
+            state: self,
+            answer: Answer::Told(slot::word_of(z[i] <= most)),
+        }
+    }
+
+    // Draw: a triangle of three slots, with the caller's material, render mode, fog colour and primitive depth.
+    pub fn draw_tri(
+        mut self,
+        a: u32,
+        b: u32,
+        c: u32,
+        material: u32,
+        render_mode: u32,
+        fog_colour: u32,
+        prim_depth: u32,
+        indices: &mut [u32],
+        runs: &mut [u32],
+    ) -> Answered
+        ensures { λ r. ⌜ outcome r (now (indices .exit), now (runs .exit)) ≡ settle areas89 (drawPlan f3dex2 256 self (table 1 (self .counts .indices) (now (indices .entry))) (table 8 (self .counts .runs) (now (runs .entry))) a b c (material ∷ «render_mode» ∷ «fog_colour» ∷ «prim_depth» ∷ [])) self (now (indices .entry), now (runs .entry)) ⌝ }
+    {
+        let row = self.row;
+        let ever = self.ever;
+        let mut drawn = self.drawn;
+        let i = (a % 256) as usize;
+        let j = (b % 256) as usize;
+        let k = (c % 256) as usize;
+        let p = slot::corner_at(a, ever[i], row[i]);
+        let q = slot::corner_at(b, ever[j], row[j]);
+        let s = slot::corner_at(c, ever[k], row[k]);
+        let n = self.counts.indices;
+        let m = self.counts.runs;
+        let t = verdict::tables_of(self.counts.rows, n, m, indices.len(), runs.len());
+        let sides = slot::sides_of(self.geometry);
+        let asked = [material, render_mode, fog_colour, prim_depth];
+        let set = run::settings_of(asked, sides.cull, self.microcode);
+        let last = run::last_run(runs, m, set);
+        let v = verdict::judge(self.sound(), sides.both, p, q, s, t, last);
+        if let Verdict::Record(more, start, count) = v {
+            drawn[i] = true;
+            drawn[j] = true;
+            drawn[k] = true;
+            slot::put_corners(indices, n as usize, sides.swap, p.row, q.row, s.row);
+            run::put_run(runs, areas::place(8, m + more - 1), set, start, count);
+            let indexed = n + 3;
+            let recorded = m + more;
+            self.drawn = drawn;
+            self.counts.indices = indexed;
+            self.counts.runs = recorded;
+        }
+        Answered {
+            state: self,
+            answer: answer_of(v),
+        }
+    }
+}

@@ -1,0 +1,151 @@
+// Modify, and the ink count.
+ghost use mathlib.Core.Path.{_≡_};
+ghost use Prim.Native.Nat.{_<_};
+ghost use lib.ListN.{length};
+ghost use Rattle.areas.specs.Area.{room};
+ghost use Rattle.change.specs.Judged.{rowRoom};
+ghost use Rattle.stage.specs.Plan.{outcome, settle, table, nothing, rowTable};
+ghost use Rattle.stage.specs.Modify.{areas37, answerOf, countsTo, changed, modifyPlan, inkPlan};
+ghost use Rattle.stage.specs.With.{withCounts};
+use crate::Answer;
+use crate::Answered;
+use crate::State;
+use change::Change;
+use change::judge::Moved;
+use change::judge::Refusal;
+use change::judge::Slot;
+use change::judge::Tables;
+use change::judge::Verdict;
+
+// The answer that a refusal of the judge stands for.
+fn answer_of(r: Refusal, slot: u32, attribute: u32) -> Answer
+    ensures { λ a. ⌜ a ≡ answerOf slot attribute r ⌝ }
+{
+    match r {
+        Refusal::Unknown => Answer::BadModify(slot, attribute),
+        Refusal::NoRow => Answer::BadState,
+        Refusal::Short(t) => Answer::ShortArea(t),
+        Refusal::Full(t) => Answer::NoRoom(t),
+    }
+}
+
+impl State {
+    // What the judge of a change looks at of tables 3 and 7, whose areas have so many numbers.
+    fn tables37(self, scales: usize, floats: usize, words: usize) -> Tables
+        ensures { λ r. ⌜ r ≡ record { scales = self .counts .scales; scaleroom = room 4 scales; rows = self .counts .rows; rowroom = rowRoom floats words; unit = self .unit } ⌝ }
+    {
+        Tables {
+            scales: self.counts.scales,
+            scaleroom: areas::room_of(4, scales),
+            rows: self.counts.rows,
+            rowroom: change::judge::row_room(floats, words),
+            unit: self.unit,
+        }
+    }
+
+    // The state once the change is made. Asks for a slot that there is, which the judge has seen to by then.
+    fn changed_to(mut self, slot: u32, c: Change, m: Moved) -> State
+        requires { ⌜ slot < 256 ⌝ }
+        ensures { λ r. ⌜ r ≡ withCounts (changed c m self slot) (countsTo m (self .counts)) ⌝ }
+    {
+        let k = slot as usize;
+        let mut row = self.row;
+        let mut drawn = self.drawn;
+        let mut z = self.z;
+        let deep = self.deep;
+        let depth = change::depth_after(c, deep[k], z[k]);
+        row[k] = m.row;
+        drawn[k] = false;
+        z[k] = depth;
+        self.row = row;
+        self.drawn = drawn;
+        self.z = z;
+        self.unit = m.unit;
+        self.counts.scales = m.scales;
+        self.counts.rows = m.rows;
+        self
+    }
+
+    // Modify: attributes 0x10, 0x14, 0x18 and 0x1C. All is judged before anything is written.
+    pub fn modify_vertex(
+        self,
+        slot: u32,
+        attribute: u32,
+        value: u32,
+        scales: &mut [f32],
+        floats: &mut [f32],
+        words: &mut [u32],
+    ) -> Answered
+        ensures { λ r. ⌜ outcome r (now (scales .exit), now (floats .exit), now (words .exit)) ≡ settle areas37 (modifyPlan 256 self (table 4 (self .counts .scales) (now (scales .entry))) (rowTable (self .counts .rows) (now (floats .entry)) (now (words .entry))) slot attribute value) self (now (scales .entry), now (floats .entry), now (words .entry)) ⌝ }
+    {
+        if !self.sound() {
+            return Answered {
+                state: self,
+                answer: Answer::BadState,
+            };
+        }
+        if 256 <= slot {
+            return Answered {
+                state: self,
+                answer: Answer::BadModify(slot, attribute),
+            };
+        }
+        let k = slot as usize;
+        let loaded = self.loaded;
+        let drawn = self.drawn;
+        let row = self.row;
+        let s = Slot {
+            loaded: loaded[k],
+            drawn: drawn[k],
+            row: row[k],
+        };
+        let t = self.tables37(scales.len(), floats.len(), words.len());
+        let v = change::judge::judge(change::decode(attribute, value), s, t);
+        match v {
+            Verdict::No(r) => Answered {
+                state: self,
+                answer: answer_of(r, slot, attribute),
+            },
+            Verdict::Go(c, m) => {
+                change::remake::append_unit(scales, self.counts.scales, m.scales);
+                change::remake::remake_floats(floats, s.row, m.row, c);
+                change::remake::remake_words(words, s.row, m.row, m.unit, c);
+                Answered {
+                    state: self.changed_to(slot, c, m),
+                    answer: Answer::Done,
+                }
+            }
+        }
+    }
+
+    // Ink count: how many indices in use are of rows in use that have the colour word.
+    pub fn ink_count(self, colour: u32, floats: &[f32], words: &[u32], indices: &[u32]) -> Answered
+        ensures { λ r. ⌜ outcome r tt ≡ settle nothing (inkPlan self (rowTable (self .counts .rows) (now (floats .entry)) (now (words .entry))) (table 1 (self .counts .indices) (now (indices .entry))) colour) self tt ⌝ }
+    {
+        if !self.sound() {
+            return Answered {
+                state: self,
+                answer: Answer::BadState,
+            };
+        }
+        let rows = self.counts.rows;
+        let used = self.counts.indices;
+        if !decide::judge::holds(rows, 0, change::judge::row_room(floats.len(), words.len())) {
+            return Answered {
+                state: self,
+                answer: Answer::ShortArea(7),
+            };
+        }
+        if !decide::judge::holds(used, 0, areas::room_of(1, indices.len())) {
+            return Answered {
+                state: self,
+                answer: Answer::ShortArea(8),
+            };
+        }
+        let n = change::ink::count_ink(words, rows, indices, used, colour);
+        Answered {
+            state: self,
+            answer: Answer::Told(n),
+        }
+    }
+}

@@ -1,0 +1,71 @@
+// Slots and the corners of a triangle, its sides, and a test's answer as a number.
+ghost use mathlib.Core.Path.{_≡_};
+ghost use mathlib.Core.Bool.{cond};
+ghost use Prim.Native.Nat.{_+_, _≤_};
+ghost use lib.ListN.{length};
+ghost use Rattle.areas.specs.Area.{put};
+ghost use Rattle.decide.specs.Family.{f3dex2};
+ghost use Rattle.triangle.specs.Slot.{bit, corners, cornerOf, sidesOf};
+
+// A corner of a triangle: its slot, whether that was ever loaded, and the slot's row.
+pub struct Corner {
+    pub slot: u32,
+    pub known: bool,
+    pub row: u32,
+}
+
+// What a geometry mode word says of the sides of a triangle: both are culled, one at least is, the front only is.
+pub struct Sides {
+    pub both: bool,
+    pub cull: bool,
+    pub swap: bool,
+}
+
+// The corner at a slot, of which the mark and the row are read at its number modulo 256.
+pub fn corner_at(slot: u32, mark: bool, row: u32) -> Corner
+    ensures { λ r. ⌜ r ≡ cornerOf 256 slot mark row ⌝ }
+{
+    Corner {
+        slot: slot,
+        known: (slot < 256) & mark,
+        row: row,
+    }
+}
+
+// The sides by the bits front and back.
+pub fn sides_of(geometry: u32) -> Sides
+    ensures { λ r. ⌜ r ≡ sidesOf f3dex2 geometry ⌝ }
+{
+    let front = decide::judge::has_flag(0x200, geometry);
+    let back = decide::judge::has_flag(0x400, geometry);
+    Sides {
+        both: front & back,
+        cull: front | back,
+        swap: front & !back,
+    }
+}
+
+// 1 for yes, 0 for no.
+pub fn word_of(yes: bool) -> u32
+    ensures { λ r. ⌜ r ≡ bit yes ⌝ }
+{
+    if yes { 1 } else { 0 }
+}
+
+// One of two numbers.
+fn either(first: bool, x: u32, y: u32) -> u32
+    ensures { λ r. ⌜ r ≡ cond first x y ⌝ }
+{
+    if first { x } else { y }
+}
+
+// The rows x, y, z from place `at` on, the first and the last exchanged where `swap` says so. Asks for room, which a
+// draw has judged before it writes: a test of each index would cost.
+pub fn put_corners(indices: &mut [u32], at: usize, swap: bool, x: u32, y: u32, z: u32)
+    requires { ⌜ at + 3 ≤ length (now indices) ⌝ }
+    ensures { λ _. ⌜ now (indices .exit) ≡ put (now (indices .entry)) at (corners swap x y z) ⌝ }
+{
+    indices[at] = either(swap, z, x);
+    indices[at + 1] = y;
+    indices[at + 2] = either(swap, x, z);
+}
