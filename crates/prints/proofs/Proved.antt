@@ -1,6 +1,6 @@
 -- Document 01's cases, proved as a single table: each row by computation of the definitions that the contracts cite. Assumes nothing.
 use mathlib.Core.Path.{refl}
-use lib.Ieee.{toBits, add, mul, div, neg, lt, eq, ne}
+use lib.Ieee.{toBits, add, mul, div, neg, lt, le, eq, ne}
 use Rattle.numbers.specs.Ratio.{ofRatio, isRatio}
 use Rattle.numbers.specs.Sqrt.{sqrt}
 use Rattle.matrix.specs.Math.{rowTimes, times, rows, laid}
@@ -21,13 +21,20 @@ use Rattle.stage.specs.Opening as opening
 use Rattle.stage.specs.Matrices.{viewing, viewportPlan}
 use Rattle.stage.specs.Load.{settled, settledState, sharedBy, loadEdits, loadPlan}
 use Rattle.stage.specs.Rows.{fillSlot, fillSlots}
-use Rattle.prints.specs.Prints.{Prints, loaded}
+use Rattle.stage.specs.Modify.{asking, changed, changePlan, modifyPlan}
+use Rattle.stage.specs.Draw.{cullPlan, depthPlan, runEdit, drawPlan}
+use Rattle.change.specs.Decoded.{decoded, floatsAfter, wordsAfter, depthAfter}
+use Rattle.change.specs.Judged.{appends, comesTo}
+use Rattle.triangle.specs.Run.{closed, sameRun}
+use Rattle.triangle.specs.Slot.{held}
+use Rattle.prints.specs.Prints.{Prints, load, modify, drawn, three, twice}
 
 pub prints : Prints
-unfolding loaded ofRatio isRatio entryAt tripleAt viewportAt sqrt toBits rowTimes codeOf depthOf vertexAt put write matches texgenMode pick find sameScale refold floatsOf wordsOf clipOf slotAt slotOf verticesAt unless settle appended appending all stateSound blank openingPlan opening.opened viewing viewportPlan settled settledState sharedBy loadEdits loadPlan fillSlot fillSlots times rows laid add mul div neg lt ne
+unfolding load modify drawn three twice asking changed changePlan modifyPlan cullPlan depthPlan runEdit drawPlan decoded floatsAfter wordsAfter depthAfter appends comesTo closed sameRun held le ofRatio isRatio entryAt tripleAt viewportAt sqrt toBits rowTimes codeOf depthOf vertexAt put write matches texgenMode pick find sameScale refold floatsOf wordsOf clipOf slotAt slotOf verticesAt unless settle appended appending all stateSound blank openingPlan opening.opened viewing viewportPlan settled settledState sharedBy loadEdits loadPlan fillSlot fillSlots times rows laid add mul div neg lt ne
 prints =
     record {
       case1 = (refl, refl, refl);
+      case2 = refl;
       case3 = (refl, refl);
       case4 = (refl, refl);
       case5 = (refl, refl, refl);
@@ -35,5 +42,7 @@ prints =
       case7 = refl;
       case8 = (refl, refl, refl);
       case9 = ((refl, refl), (refl, refl), (refl, refl));
-      case11 = (refl, refl);
+      case10 = (((refl, refl), refl), refl);
+      case11 = ((refl, refl), (refl, refl));
+      case12 = (refl, refl, refl);
     }

@@ -12,10 +12,12 @@ use Rattle.matrix.specs.Math.{at}
 use Rattle.decide.specs.Family.{f3dex2}
 use Rattle.decide.specs.Lights.{lightNumber}
 use Rattle.stage.specs.declared.State.{State}
-use Rattle.stage.specs.Plan.{Outcome, settle, table}
+use Rattle.stage.specs.Plan.{Outcome, settle, table, rowTable, nothing}
 use Rattle.stage.specs.Opening.{zeros, blank, openingPlan, areas12}
 use Rattle.stage.specs.Matrices.{viewportPlan, area2}
 use Rattle.stage.specs.Load.{loadPlan, loadAreas, loadTables, areasLoad, LoadAreas}
+use Rattle.stage.specs.Modify.{modifyPlan, areas37}
+use Rattle.stage.specs.Draw.{cullPlan, depthPlan, drawPlan, areas89}
 use Rattle.layout.specs.Layout.{entryAt, viewportAt}
 
 -- x is the fraction z / d, exactly
@@ -47,31 +49,78 @@ opened = opening .state
 abbrev pub viewing : State
 viewing = settle area2 (viewportPlan opened (table 6 1 (zeros 12)) (replicate 4 0 ++ (0x01 ∷ 0xFF ∷ replicate 6 0) ++ (0x01 ∷ 0xFF ∷ 0 ∷ 0 ∷ [])) 0) opened (zeros 12) .state
 
--- table 1 as opening left it, and areas with room for one vertex
-abbrev pub lentAreas : LoadAreas
-lentAreas = loadAreas (opening .areas .0) (zeros 4) [] [] [] (zeros 9) (replicate 10 0)
-
--- the state after one vertex of these bytes is loaded into slot 0
-unfoldable pub loaded : State → List ℕ → State
-loaded s bytes = settle areasLoad (loadPlan f3dex2 256 s (loadTables (s .counts) lentAreas) 0 1 bytes 0) s lentAreas .state
-
 -- the bytes of a vertex at a point of signed halves x, y, z
 abbrev pub pointBytes : ℕ → ℕ → ℕ → ℕ → ℕ → ℕ → List ℕ
 pointBytes a b c d e f = a ∷ b ∷ c ∷ d ∷ e ∷ f ∷ replicate 10 0
+
+-- table 1 as opening left it, and areas with room for four rows and two scale entries
+abbrev pub lentAreas : LoadAreas
+lentAreas = loadAreas (opening .areas .0) (zeros 8) [] [] [] (zeros 36) (replicate 40 0)
+
+-- a load of n vertices into the slots from first on
+unfoldable pub load : State → LoadAreas → ℕ → ℕ → List ℕ → Outcome LoadAreas
+load s l first n bytes = settle areasLoad (loadPlan f3dex2 256 s (loadTables (s .counts) l) first n bytes 0) s l
+
+-- the state after one vertex of these bytes is loaded into slot 0
+abbrev pub loaded : State → List ℕ → State
+loaded s bytes = load s lentAreas 0 1 bytes .state
+
+-- a modify of a slot, after what o came to
+unfoldable pub modify : Outcome LoadAreas → ℕ → ℕ → ℕ → Outcome (List Float × List Float × List ℕ)
+modify o slot attribute value =
+    settle areas37
+    (modifyPlan 256 (o .state) (table 4 (o .state .counts .scales) (o .areas .scales)) (rowTable (o .state .counts .rows) (o .areas .floats) (o .areas .words)) slot attribute value)
+    (o .state)
+    (o .areas .scales, o .areas .floats, o .areas .words)
+
+-- a modify of slot 0, after one vertex with a screen z is loaded into it
+abbrev pub modified : ℕ → ℕ → Outcome (List Float × List Float × List ℕ)
+modified attribute value = modify (load viewing lentAreas 0 1 (pointBytes 0 0 0 0 0 1)) 0 attribute value
+
+-- a draw of slots 0, 1 and 2 with the areas l
+unfoldable pub drawn : State → List ℕ × List ℕ → Outcome (List ℕ × List ℕ)
+drawn s l = settle areas89 (drawPlan f3dex2 256 s (table 1 (s .counts .indices) (l .0)) (table 8 (s .counts .runs) (l .1)) 0 1 2 (0 ∷ 0 ∷ 0 ∷ 0 ∷ [])) s l
 
 -- slot 0 has the clip code n
 abbrev pub Code : State → ℕ → Type 0
 Code s n = (getD (s .coded) 0 false ≡ true) × (getD (s .code) 0 99 ≡ n)
 
+-- vertices of codes 34 and 32 in slots 0 and 1
+abbrev pub both : State
+both = load opened lentAreas 0 2 (pointBytes 0 2 0 0 0 2 ++ pointBytes 0 0 0 0 0 2) .state
+
+-- a vertex with a screen z in slot 0, and what the depth test tells of it
+abbrev pub deep : State
+deep = loaded viewing (pointBytes 0 0 0 0 0 1)
+
+abbrev pub Near : ℕ → ℕ → Type 0
+Near threshold n = settle nothing (depthPlan 256 deep 0 threshold) deep tt .values ≡ n ∷ []
+
+-- three loads, of a vertex each, into slots 0, 1 and 2
+unfoldable pub three : Outcome LoadAreas
+three =
+    let a = load opened lentAreas 0 1 (pointBytes 0 0 0 0 0 0) in
+    let b = load (a .state) (a .areas) 1 1 (pointBytes 0 1 0 0 0 0) in
+    load (b .state) (b .areas) 2 1 (pointBytes 0 0 0 1 0 0)
+
+-- then draw 0 1 2, modify slot 1, draw again; with room for 6 indices and one run
+unfoldable pub twice : Outcome (List ℕ × List ℕ)
+twice =
+    let d = drawn (three .state) (replicate 6 99, replicate 8 99) in
+    let m = modify (record { state = d .state; number = 0; values = []; areas = three .areas }) 1 0x10 0 in
+    drawn (m .state) (d .areas)
+
 pub record Prints : Type 0 where
   -- 1. whole 1, fraction 0x8000: 1.5; whole -1: -0.5; 32767 and 65535: 32768
   pub case1 : Is (entryAt matrixBytes 0 0) (pos 3) 2 × Is (entryAt matrixBytes 0 1) (negsuc 0) 2 × Is (entryAt matrixBytes 0 2) (pos 32768) 1
+  -- 2. 0x10 with 0x11223344: 0x44332211
+  pub case2 : getD (modified 0x10 0x11223344 .areas .2) 4 0 ≡ 0x44332211
   -- 3. 0x14 with 0xFFE00040: -1 and 2
-  pub case3 : Is (ofRatio binary32 (signed 16 0xFFE0) 32) (negsuc 0) 1 × Is (ofRatio binary32 (signed 16 0x0040) 32) (pos 2) 1
+  pub case3 : Is (at (modified 0x14 0xFFE00040 .areas .1) 3) (negsuc 0) 1 × Is (at (modified 0x14 0xFFE00040 .areas .1) 4) (pos 2) 1
   -- 4. 0x18 with 0x0004FFFE: 1 and -0.5
-  pub case4 : Is (ofRatio binary32 (signed 16 0x0004) 4) (pos 1) 1 × Is (ofRatio binary32 (signed 16 0xFFFE) 4) (negsuc 0) 2
+  pub case4 : Is (at (modified 0x18 0x0004FFFE .areas .1) 5) (pos 1) 1 × Is (at (modified 0x18 0x0004FFFE .areas .1) 6) (negsuc 0) 2
   -- 5. 0x1C with 16777217: 0.25, slot z 16777217/65536; with 0xFFFFFFFF: 64
-  pub case5 : Is (ofRatio binary32 (pos 16777217) 67108864) (pos 1) 4 × Is (ofRatio binary64 (pos 16777217) 65536) (pos 16777217) 65536 × Is (ofRatio binary32 (pos 0xFFFFFFFF) 67108864) (pos 64) 1
+  pub case5 : Is (at (modified 0x1C 16777217 .areas .1) 7) (pos 1) 4 × Is (at (modified 0x1C 16777217 .state .z) 0) (pos 16777217) 65536 × Is (at (modified 0x1C 0xFFFFFFFF .areas .1) 7) (pos 64) 1
   -- 6. lights 23, 48, 191, 500: 0, 2, 7, 7
   pub case6 : (lightNumber 23 ≡ 0) × (lightNumber 48 ≡ 2) × (lightNumber 191 ≡ 7) × (lightNumber 500 ≡ 7)
   -- 7. square root of 2.0f: bits 0x3FB504F3
@@ -80,5 +129,9 @@ pub record Prints : Type 0 where
   pub case8 : Is (at (viewportAt viewportBytes 0 .scale) 0) (pos 160) 1 × Is (at (viewportAt viewportBytes 0 .scale) 1) (pos 120) 1 × Is (at (viewportAt viewportBytes 0 .scale) 2) (pos 4990234375) 10000000000
   -- 9. identity, points (1,0,0), (2,0,0), (2,-3,4): codes 0, 2, 38
   pub case9 : Code (loaded opened (pointBytes 0 1 0 0 0 0)) 0 × Code (loaded opened (pointBytes 0 2 0 0 0 0)) 2 × Code (loaded opened (pointBytes 0 2 0xFF 0xFD 0 4)) 38
-  -- 11. point (0,0,1), z scale and translation 511: screen z 1022
-  pub case11 : (getD (loaded viewing (pointBytes 0 0 0 0 0 1) .deep) 0 false ≡ true) × Is (at (loaded viewing (pointBytes 0 0 0 0 0 1) .z) 0) (pos 1022) 1
+  -- 10. codes 34 and 32: not culled
+  pub case10 : (Code both 34 × (getD (both .code) 1 99 ≡ 32)) × (settle nothing (cullPlan 256 both 0 1) both tt .values ≡ 0 ∷ [])
+  -- 11. point (0,0,1), z scale and translation 511: screen z 1022; threshold 66977792 yes, 66977791 no
+  pub case11 : ((getD (deep .deep) 0 false ≡ true) × Is (at (deep .z) 0) (pos 1022) 1) × (Near 66977792 1 × Near 66977791 0)
+  -- 12. three loads, draw 0 1 2, modify slot 1, draw again: indices 0 1 2 0 3 2, one run of 6
+  pub case12 : (twice .areas .0 ≡ 0 ∷ 1 ∷ 2 ∷ 0 ∷ 3 ∷ 2 ∷ []) × (twice .areas .1 ≡ 0 ∷ 0 ∷ 0 ∷ 0 ∷ 0 ∷ 0 ∷ 0 ∷ 6 ∷ []) × (twice .state .counts .runs ≡ 1)
