@@ -1,0 +1,184 @@
+"""Document 01's own cases and limits as traces, each with lines that the paper asks of the output."""
+import struct
+
+import bytes_of
+import tracefile
+from tracefile import WIDTHS, Op
+
+ROOMY = [n * w for n, w in zip((40, 8, 8, 40, 8, 4, 300, 300, 60, 8), WIDTHS)]
+DRAW = [0, 0, 0, 0]
+IDENTITY = bytes_of.matrix(bytes_of.diagonal(1, 1, 1, 1))
+F32 = lambda x: struct.pack(">f", x).hex()
+F64 = lambda x: struct.pack(">d", x).hex()
+
+
+def op(name, *args, data=None):
+    return Op(name, list(args), data)
+
+
+def vertices(*points):
+    return b"".join(struct.pack(">6h4B", *p, 0, 0, 0, 1, 2, 3, 4) for p in points)
+
+
+def load(first, *points):
+    return op("load", first, len(points), data=vertices(*points))
+
+
+def many(first, count):
+    return op("load", first, count, data=vertices(*[(1, 2, 3)] * count))
+
+
+def entries(table, n):
+    """ROOMY, with room for n entries in one table."""
+    lengths = list(ROOMY)
+    for a in tracefile.TABLE_AREAS[table]:
+        lengths[a] = n * WIDTHS[a]
+    return lengths
+
+
+def pushes(n):
+    """n pushes of matrices that all differ."""
+    return [op("matrix", 3, data=bytes_of.matrix(bytes_of.diagonal(1, 1, 1, k + 2))) for k in range(n)]
+
+
+START = [op("open"), op("matrix", 2, data=IDENTITY)]
+CORNERS = START + [load(0, (0, 0, 1)), load(1, (0, 0, 1)), load(2, (0, 0, 1))]
+# name: commands after which the output has these lines; the areas are ROOMY unless said.
+CASES = {
+    "01-entries": (START + [op("force", data=bytes_of.matrix([1.5, -0.5, 32767 + 65535 / 65536] + [0] * 13))],
+                   ["t1 1 " + " ".join(map(F32, [1.5, -0.5, 32768.0] + [0.0] * 13))]),
+    "02-colour": (START + [load(0, (0, 0, 0)), op("modify", 0, 0x10, 0x11223344), op("draw", 0, 0, 0, *DRAW),
+                           op("ink", 0x44332211)], ["5 ink 0 3"]),
+    "03-texture": (START + [load(0, (0, 0, 0)), op("modify", 0, 0x14, 0xFFE00040)],
+                   ["t7 0 " + " ".join(map(F32, [0.0] * 3 + [-1.0, 2.0] + [0.0] * 4)) + " 0 0 0 1 67305985 0 0 0 0 0"]),
+    "04-screen": (START + [load(0, (0, 0, 0)), op("modify", 0, 0x18, 0x0004FFFE)],
+                  ["t7 0 " + " ".join(map(F32, [0.0] * 5 + [1.0, -0.5, 0.0, 0.0])) + " 1 0 0 0 67305985 0 0 0 0 0"]),
+    "05-depth": (START + [load(0, (0, 0, 0)), load(1, (0, 0, 0)), op("modify", 0, 0x1C, 16777217), op("modify", 1, 0x1C, 0xFFFFFFFF)],
+                 ["slot 0 0 1 0 0 " + F64(16777217 / 65536), "slot 1 1 1 0 0 " + F64(0xFFFFFFFF / 65536),
+                  "t7 0 " + " ".join(map(F32, [0.0] * 7 + [0.25, 0.0])) + " 2 0 0 0 67305985 0 0 0 0 0",
+                  "t7 1 " + " ".join(map(F32, [0.0] * 7 + [64.0, 0.0])) + " 2 0 0 0 67305985 0 0 0 0 0"]),
+    **{f"06-lights-{n}": (START + [op("lightnum", n)], [f"state 1 0 0 1 0 0 0 0 0 0 0 {want}"])
+       for n, want in ((23, 0), (48, 2), (191, 7), (500, 7))},
+    "08-viewport": (START + [op("viewport", data=struct.pack(">8h", 640, 480, 511, 0, 0, 0, 0, 0))],
+                    ["vp " + " ".join(map(F32, (160.0, 120.0, 0.4990234375, 0.0, 0.0, 0.0)))]),
+    "09-codes": (START + [load(0, (1, 0, 0), (2, 0, 0), (2, -3, 4))],
+                 [f"slot {k} {k} 1 0 {code} {F64(0.0)}" for k, code in enumerate((0, 2, 38))]),
+    "10-not-culled": (START + [load(0, (2, 0, 4), (0, 0, 4)), op("cull", 0, 1), op("cull", 0, 0)], ["3 cull 0 0", "4 cull 0 1"]),
+    "11-depth-test": (START + [op("viewport", data=struct.pack(">8h", 0, 0, 511, 0, 0, 0, 511, 0)), load(0, (0, 0, 1)),
+                               op("depth", 0, 66977792), op("depth", 0, 66977791)],
+                      ["4 depth 0 1", "5 depth 0 0", "slot 0 0 1 0 0 " + F64(1022.0)]),
+    "12-draw-twice": (CORNERS + [op("draw", 0, 1, 2, *DRAW), op("modify", 1, 0x10, 5), op("draw", 0, 1, 2, *DRAW)],
+                      [f"t8 {k} {row}" for k, row in enumerate((0, 1, 2, 0, 3, 2))] + ["t9 0 0 0 0 0 0 0 0 6", "slot 1 3 1 1 0 " + F64(0.0)]),
+    "load-256-from-0": (START + [many(0, 256)], ["2 load 0 0", "counts 1 1 1 0 0 0 256 0 0"]),
+    "load-256-from-1": (START + [many(1, 256)], ["2 load 1 256 1", "counts 1 1 0 0 0 0 0 0 0"]),
+    "load-0-from-256": (START + [many(256, 0)], ["2 load 0 0", "counts 1 1 1 0 0 0 0 0 0"]),
+    "load-0-from-257": (START + [many(257, 0)], ["2 load 1 0 257"]),
+    "push-31": ([op("open")] + pushes(31), ["31 matrix 0", "counts 32 1 0 0 0 0 0 0 0", "state 32 0 0 1 0 0 0 0 0 0 0 0"]),
+    "push-32": ([op("open")] + pushes(32), ["32 matrix 0", "counts 33 1 0 0 0 0 0 0 0", "state 32 0 0 1 0 0 0 0 0 0 0 0"]),
+    "notice": ([op("open"), load(0, (0, 0, 0)), load(0, (0, 0, 0))], ["1 load 0 1", "2 load 0 1"]),
+    "microcode-still-draws": (CORNERS + [op("ucode", 1), op("draw", 0, 1, 2, *DRAW), op("cull", 0, 2)],
+                              ["6 draw 0", "7 cull 3 0", "t9 0 0 0 0 0 0 1 0 3"]),
+}
+# name: lengths, commands, lines.
+TIGHT = {
+    "rows-fit": (entries(7, 3), CORNERS, ["4 load 0 0", "counts 1 1 1 0 0 0 3 0 0"]),
+    "one-row-short": (entries(7, 2), CORNERS, ["4 load 9 7", "counts 1 1 1 0 0 0 2 0 0"]),
+    "one-number-short": ([n - 1 if a == 6 else n for a, n in enumerate(entries(7, 3))], CORNERS, ["4 load 9 7"]),
+    "one-index-short": (entries(8, 2), CORNERS + [op("draw", 0, 1, 2, *DRAW)], ["5 draw 9 8"]),
+    "no-run": (entries(9, 0), CORNERS + [op("draw", 0, 1, 2, *DRAW)], ["5 draw 9 9", "slot 1 1 1 0 0 " + F64(0.0)]),
+    "unit-scale-short": (entries(3, 1), CORNERS + [op("draw", 0, 0, 0, *DRAW), op("modify", 0, 0x14, 0)],
+                         ["6 modify 9 3", "counts 1 1 1 0 0 0 3 3 1"]),
+    "no-matrix": (entries(1, 0), [op("open"), op("pop", 0)], ["0 open 9 1", "1 pop 10", "open 0"]),
+    "no-viewport": (entries(2, 0), [op("open"), op("geom", 0, 0)], ["0 open 9 2", "1 geom 10", "open 0"]),
+}
+
+
+def short(*areas):
+    """Nothing lent of these areas."""
+    return [op("lend", a, 0) for a in areas]
+
+
+def far_away(column):
+    """Products under which one number of every point grows past f32."""
+    grown = bytes_of.matrix(bytes_of.diagonal(*[32767 if k == column else 1 for k in range(4)]))
+    return [op("matrix", 4, data=grown)] * 10
+
+
+DRAWN = CORNERS + [op("draw", 0, 1, 2, *DRAW)]                                  # six commands
+LIT = START + [op("geom", 0, 0xF0000), load(0, (0, 0, 1)), op("light", 1, data=bytes(11)), op("lookat", 0, data=bytes(11)),
+               op("fog", 1, 1), op("texture", 0, 0, 0, 9, 9), op("force", data=bytes_of.matrix([2.0] * 16)), op("ucode", 0)]
+CULLED = op("geom", 0, 0x600)
+FRONT = op("geom", 0, 0x200)
+WRONG_RUN = op("write", 9, 6, 1)
+# Several faults at once: the order in which document 01 names them, and the least table.
+ORDER = {
+    "load-1-7-8": (CORNERS + short(0, 2, 6) + [op("load", 1, 256, data=b""), op("load", 0, 257, data=b""), op("load", 0, 2, data=bytes(31)),
+                                               many(0, 2)], ["8 load 1 256 1", "9 load 1 257 0", "10 load 7 32", "11 load 8 1"]),
+    "load-8-least": (LIT + short(6, 5, 4, 3, 2) + [many(0, 1), op("lend", 2, 4), many(0, 1), op("lend", 3, 12), many(0, 1), op("lend", 4, 6),
+                                                   many(0, 1), op("lend", 5, 2), many(0, 1), op("lend", 6, 9), op("lend", 7, 9), many(0, 1)],
+                     ["15 load 8 3", "17 load 8 4", "19 load 8 5", "21 load 8 6", "23 load 8 7", "26 load 8 7"]),
+    "load-9-least": (LIT + [op("lend", a, n) for a, n in ((0, 47), (2, 7), (3, 11), (4, 11), (5, 3), (6, 17), (7, 19))] +
+                     [many(0, 1), op("lend", 0, 48), many(0, 1), op("lend", 2, 8), many(0, 1), op("lend", 3, 12), many(0, 1),
+                      op("lend", 4, 12), many(0, 1), op("lend", 5, 4), many(0, 1), op("lend", 6, 18), many(0, 1), op("lend", 7, 20), many(0, 1)],
+                     ["17 load 9 1", "19 load 9 3", "21 load 9 4", "23 load 9 5", "25 load 9 6", "27 load 9 7", "29 load 9 7", "31 load 0 1"]),
+    "data-before-room": (START + short(0, 1) + [op("matrix", 2, data=bytes(63)), op("matrix", 2, data=IDENTITY), op("force", data=bytes(63)),
+                                                op("force", data=IDENTITY), op("viewport", data=bytes(15)), op("viewport", data=bytes(16)),
+                                                op("pop", 0)],
+                         ["4 matrix 7 64", "5 matrix 8 1", "6 force 7 64", "7 force 8 1", "8 viewport 7 16", "9 viewport 8 2", "10 pop 8 1"]),
+    "cull-3-4": (START + far_away(3) + [load(0, (0, 0, 1)), load(2, (0, 0, 1)), op("cull", 0, 1), op("cull", 1, 2), op("cull", 2, 1),
+                                        op("cull", 1, 256), op("depth", 0, 0), op("depth", 1, 0), op("depth", 256, 0)],
+                 ["14 cull 4 0", "15 cull 3 1", "16 cull 2 2 1", "17 cull 2 1 256", "18 depth 4 0", "19 depth 3 1", "20 depth 3 256"]),
+    **{f"no-code-{k}": (START + far_away(k) + [load(0, (1, 1, 1))], ["slot 0 0 1 0 - -"]) for k in range(4)},
+    "code-without-z": (START + [op("force", data=bytes(64)), load(0, (1, 1, 1)), op("cull", 0, 0), op("depth", 0, 0)],
+                       ["slot 0 0 1 0 0 -", "4 cull 0 0", "5 depth 4 0"]),
+    "modify-5-10-8-9": (DRAWN + [op("poke", 4, 0, 3), op("lend", 2, 4), *short(6), op("modify", 0, 0x11, 0), op("modify", 0, 0x14, 0),
+                                 op("poke", 4, 0, 0), op("modify", 0, 0x14, 0), op("lend", 6, 27), op("modify", 0, 0x14, 0),
+                                 op("lend", 2, 8), op("modify", 0, 0x14, 0), op("lend", 6, 36), op("modify", 0, 0x14, 0)],
+                        ["9 modify 5 0 17", "10 modify 10", "12 modify 8 7", "14 modify 9 3", "16 modify 9 7", "18 modify 0"]),
+    "modify-8-least": (CORNERS + short(2, 7) + [op("modify", 0, 0x10, 0)], ["7 modify 8 3"]),
+    "draw-exit-first": (CORNERS + short(8, 9) + [CULLED, op("draw", 300, 301, 302, *DRAW), op("poke", 1, 0, 0), op("draw", 0, 1, 2, *DRAW)],
+                        ["8 draw 0", "10 draw 10"]),
+    "draw-6-before-exchange": (CORNERS + [FRONT, op("draw", 7, 0, 8, *DRAW), op("draw", 0, 256, 9, *DRAW), op("draw", 2, 1, 0, *DRAW)],
+                               ["6 draw 6 7", "7 draw 6 256", "8 draw 0", "t8 0 0", "t8 2 2", "t9 0 0 0 0 0 1 0 0 3"]),
+    "draw-6-10-8-10-9": (DRAWN + [WRONG_RUN, op("poke", 4, 0, 3), op("lend", 8, 2), op("lend", 9, 7), op("draw", 0, 9, 1, *DRAW),
+                                  op("draw", 1, 1, 0, *DRAW), op("poke", 4, 0, 0), op("draw", 0, 1, 2, *DRAW), op("lend", 8, 5),
+                                  op("draw", 0, 1, 2, *DRAW), op("lend", 9, 8), op("draw", 0, 1, 2, *DRAW), op("write", 9, 6, 0),
+                                  op("draw", 0, 1, 2, *DRAW), op("draw", 0, 1, 2, 1, 0, 0, 0), op("lend", 8, 6),
+                                  op("draw", 0, 1, 2, 1, 0, 0, 0), op("draw", 0, 1, 2, *DRAW)],
+                         ["10 draw 6 9", "11 draw 10", "13 draw 8 8", "15 draw 8 9", "17 draw 10", "19 draw 9 8", "20 draw 9 8",
+                          "22 draw 9 9", "23 draw 0"]),
+    "last-run-does-not-wrap": (DRAWN + [op("write", 9, 6, 0xFFFFFFFF), op("write", 9, 7, 4), op("draw", 0, 1, 2, *DRAW)], ["8 draw 10"]),
+    "indices-without-run": (DRAWN + [op("poke", 3, 9, 0), op("draw", 0, 1, 2, *DRAW)], ["7 draw 0", "t9 0 0 0 0 0 0 0 3 3"]),
+    "ink-least": (DRAWN + short(8, 6) + [op("ink", 0), op("lend", 6, 27), op("ink", 0), op("lend", 8, 3), op("ink", 0x04030201)],
+                  ["8 ink 8 7", "10 ink 8 8", "12 ink 0 3"]),
+    "ink-beyond-rows": (DRAWN + [op("write", 8, 1, 5), op("ink", 7), op("ink", 0x04030201), op("poke", 3, 7, 2), op("ink", 0x04030201)],
+                        ["7 ink 0 0", "8 ink 0 2", "10 ink 0 1"]),
+    "others-not-judged": (DRAWN + short(1, 8, 9) + [load(0, (0, 0, 1)), op("pop", 0), op("modify", 0, 0x10, 0), *short(*range(10)), op("lend", 8, 60),
+                                                    op("lend", 9, 64), op("draw", 0, 1, 2, *DRAW), op("lend", 9, 0), op("lend", 6, 90), op("lend", 7, 90),
+                                                    op("ink", 0), op("lend", 7, 0), op("lend", 0, 16), op("force", data=IDENTITY), op("pop", 0),
+                                                    op("matrix", 2, data=IDENTITY), op("lend", 0, 0), op("lend", 1, 6), op("viewport", data=bytes(16))],
+                          ["9 load 0 0", "10 pop 0", "11 modify 0", "24 draw 0", "28 ink 0 1", "31 force 0", "32 pop 0", "33 matrix 0", "36 viewport 0"]),
+    "open-least": (short(0, 1) + [op("open"), op("lend", 0, 16), op("open"), op("lend", 1, 6), op("open"), *short(0), op("open")],
+                   ["2 open 9 1", "4 open 9 2", "6 open 0", "8 open 9 1", "open 0"]),
+    "open-again": (DRAWN + [op("open"), op("draw", 0, 1, 2, *DRAW)], ["6 open 0", "7 draw 6 0", "counts 1 1 0 0 0 0 0 0 0"]),
+    "light-bytes": (START + [op("light", 0, data=bytes(2)), op("light", 0, data=bytes(3)), op("light", 1, data=bytes(10)),
+                             op("light", 8, data=b""), op("light", 8, data=bytes(11)), op("lookat", 1, data=bytes(10)),
+                             op("lookat", 2, data=b""), op("lookat", 2, data=bytes(11))],
+                    ["2 light 7 3", "3 light 0", "4 light 7 11", "5 light 7 11", "6 light 0", "7 lookat 7 11", "8 lookat 7 11", "9 lookat 0"]),
+    **{f"state-{name}": (DRAWN + [op("poke", *poked), op("geom", 0, 0), op("load", 300, 300, data=b""), op("cull", 9, 0), op("ink", 0),
+                                  op("draw", 300, 0, 0, *DRAW)], ["7 geom 10", "8 load 10", "9 cull 10", "10 ink 10", "11 draw 10"])
+       for name, poked in (("closed", (0, 0, 0)), ("depth-0", (1, 0, 0)), ("depth-33", (1, 0, 33)), ("lights-8", (2, 0, 8)),
+                           ("no-matrix", (3, 1, 0)), ("no-viewport", (3, 2, 0)), *((f"table-{t}", (3, t, 1048577)) for t in range(1, 10)))},
+}
+ALL = {**{name: (ROOMY, *case) for name, case in (CASES | ORDER).items()}, **TIGHT}
+
+
+def scripts():
+    """Pairs of a name and a script."""
+    return {name: tracefile.write(lengths, ops) for name, (lengths, ops, _) in ALL.items()}
+
+
+def missing(name, output):
+    """The lines that the paper asks for and the output has not."""
+    have = set(output.split("\n"))
+    return [line for line in ALL[name][2] if line not in have]

@@ -1,0 +1,103 @@
+"""The trace format: reading a script into commands, and writing commands into a script."""
+import struct
+
+MAGIC = b"GST1"
+WIDTHS = (16, 6, 4, 6, 6, 2, 9, 10, 1, 8)          # numbers per entry, by area
+F32_AREAS = (0, 1, 2, 3, 4, 6)
+I16_AREA = 5
+# Which areas hold the entries of table 1..9.
+TABLE_AREAS = {1: (0,), 2: (1,), 3: (2,), 4: (3,), 5: (4,), 6: (5,), 7: (6, 7), 8: (8,), 9: (9,)}
+BOUNDS = (8192, 3072, 4096, 24576, 6144, 1024, 36864, 40960, 12288, 16384)
+MOST_BYTES = 262144
+
+# op: name, names of the arguments, whether data follows
+OPS = {
+    0x01: ("open", (), False),
+    0x02: ("matrix", ("flags",), True),
+    0x03: ("force", (), True),
+    0x04: ("pop", ("count",), False),
+    0x05: ("geom", ("off", "on"), False),
+    0x06: ("viewport", (), True),
+    0x07: ("texture", ("tile", "level", "on", "sc", "tc"), False),
+    0x08: ("fog", ("multiplier", "offset"), False),
+    0x09: ("lightnum", ("bytes",), False),
+    0x0A: ("light", ("slot",), True),
+    0x0B: ("lookat", ("slot",), True),
+    0x0C: ("load", ("first", "count"), True),
+    0x0D: ("cull", ("first", "last"), False),
+    0x0E: ("depth", ("slot", "threshold"), False),
+    0x0F: ("modify", ("slot", "attribute", "value"), False),
+    0x10: ("draw", ("a", "b", "c", "material", "mode", "fogcolour", "primdepth"), False),
+    0x11: ("ucode", ("which",), False),
+    0x12: ("ink", ("colour",), False),
+    0x20: ("lend", ("area", "length"), False),
+    0x21: ("mark", (), False),
+    0x22: ("poke", ("field", "index", "value"), False),
+    0x23: ("write", ("area", "place", "value"), False),
+}
+CODES = {name: (code, names, data) for code, (name, names, data) in OPS.items()}
+
+
+class Op:
+    """One command: its name, its numbers, and its bytes if it has data."""
+
+    def __init__(self, name, args, data):
+        self.name, self.args, self.data = name, args, data
+
+
+class Cut(Exception):
+    """The script ends inside an argument."""
+
+
+class Reader:
+    def __init__(self, script):
+        self.script, self.at = script, 0
+
+    def take(self, n):
+        if self.at + n > len(self.script):
+            raise Cut
+        piece = self.script[self.at:self.at + n]
+        self.at += n
+        return piece
+
+    def u32(self):
+        return struct.unpack("<I", self.take(4))[0]
+
+
+def read_op(reader):
+    """The next command, or None where the script ends."""
+    try:
+        code = reader.take(1)[0]
+        if code not in OPS:
+            return None
+        name, names, has_data = OPS[code]
+        args = [reader.u32() for _ in names]
+        return Op(name, args, reader.take(reader.u32()) if has_data else None)
+    except Cut:
+        return None
+
+
+def read(script):
+    """(lengths of the ten areas, commands)."""
+    reader = Reader(script)
+    if reader.take(4) != MAGIC:
+        raise ValueError("not a trace")
+    lengths = [reader.u32() for _ in WIDTHS]
+    ops = []
+    while (op := read_op(reader)) is not None:
+        ops.append(op)
+    return lengths, ops
+
+
+def put(op):
+    """The bytes of one command."""
+    code, names, has_data = CODES[op.name]
+    if len(names) != len(op.args) or has_data != (op.data is not None):
+        raise ValueError(f"{op.name} does not take {op.args}")
+    out = bytes([code]) + b"".join(struct.pack("<I", a & 0xFFFFFFFF) for a in op.args)
+    return out + struct.pack("<I", len(op.data)) + op.data if has_data else out
+
+
+def write(lengths, ops):
+    """The script of a trace."""
+    return MAGIC + struct.pack("<10I", *lengths) + b"".join(put(op) for op in ops)

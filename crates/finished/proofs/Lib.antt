@@ -1,0 +1,14 @@
+pub mod Lists
+pub mod Growing
+pub mod Running
+pub mod Standing
+pub mod Drawn
+pub mod Ties
+pub mod Settled
+pub mod Loaded
+pub mod Loading
+pub mod Modified
+pub mod Keeps
+pub mod Finished
+pub mod Refuted
+pub mod Blind

@@ -1,0 +1,274 @@
+-- The bench: so many slots, each holding its vertex by value, and the triangles that it gave, each as it was when drawn. Definitions only.
+-- It obeys document 01's rules on accepted commands with values in place of numbers. The settings are the stage's own, which are values
+-- already; no count, row, mark or place of a table is read of a state (`blind` of proofs/Blind.antt).
+use Prim.Native.Nat.{ℕ, _+_}
+use mathlib.Core.Bool.{Bool, true, false, not, _&&_, _||_}
+use mathlib.Core.List.{List, [], _∷_, _++_, map}
+use mathlib.Core.Option.{none, some}
+use lib.ListN.{getD, set, take, replicate}
+use lib.Bits.{bitOr}
+use lib.Dec.{eqb}
+use lib.Ieee.{Float, eq}
+use Rattle.areas.specs.Area.{matches}
+use Rattle.matrix.specs.Math.{unit, rows, laid}
+use Rattle.layout.specs.declared.records.Vertex.{Vertex}
+use Rattle.decide.specs.Family.{Family, flag, lit, texgenMode}
+use Rattle.fold.specs.Decision.{refold}
+use Rattle.fold.specs.Lights.{lightEntries}
+use Rattle.fold.specs.Lookat.{lookatEntry}
+use Rattle.fold.specs.Scales.{scaleEntry}
+use Rattle.vertex.specs.Vertices.{floatsOf, verticesAt}
+use Rattle.change.specs.declared.Change.{Change}
+use Rattle.change.specs.declared.Change.the-variants.{Colour, Texture, Screen, Depth}
+use Rattle.change.specs.declared.Asked.{Asked}
+use Rattle.change.specs.declared.Asked.the-variants.{Known, Unknown}
+use Rattle.change.specs.Decoded.{decoded}
+use Rattle.change.specs.Judged.{unitEntry}
+use Rattle.triangle.specs.Run.{settings}
+use Rattle.triangle.specs.Slot.{both, culls, swaps}
+use Rattle.stage.specs.declared.State.{State}
+use Rattle.stage.specs.Plan.{Plan, refuse, does, pick}
+use Rattle.stage.specs.Opening.{zeros}
+use Rattle.stage.specs.Matrices.{top}
+use Rattle.stage.specs.Load.{combinedNow, fogPair}
+use Rattle.sequence.specs.Sequence.{Command, matrix, force, pop, viewport, geometry, texture, fog, number, light, lookat, microcode, load, cull, depth, modify, draw, ink, Port, Machine, book, step}
+use Rattle.finished.specs.Shown.{Corner, Triangle}
+
+-- what is held by value beside the slots
+pub record Values : Type 0 where
+  -- the value last appended to tables 1, 2 and 3; no scale yet is []
+  pub matrix : List Float
+  pub viewport : List Float
+  pub scale : List Float
+  -- the lights and the lookat axes as last folded
+  pub lights : List (List Float)
+  pub lookat : List Float
+  -- the unit scale entry has been appended
+  pub unit : Bool
+
+pub record Bench : Type 0 where
+  pub slots : List Corner
+  pub values : Values
+  -- what was drawn
+  pub triangles : List Triangle
+
+-- an empty slot, and the bench at opening
+abbrev pub noCorner : Corner
+noCorner =
+    record {
+      floats = [];
+      flags = 0;
+      matrix = [];
+      viewport = [];
+      scale = [];
+      colour = 0;
+      lights = [];
+      texgen = 0;
+      fog = none;
+      lookat = none;
+    }
+
+unfoldable pub bench0 : ℕ → Bench
+bench0 slots =
+    record {
+      slots = replicate slots noCorner;
+      values = record { matrix = laid unit; viewport = zeros 6; scale = []; lights = []; lookat = []; unit = false };
+      triangles = [];
+    }
+
+-- ---- matrix and viewport
+
+-- where a rule appends unless equal, the value last appended is held, bits and all
+abbrev pub renewed : List Float → List Float → List Float
+renewed last new = pick (matches eq last new) last new
+
+-- a bench with another matrix, or viewport, last appended
+abbrev pub withMatrix : Bench → List Float → Bench
+withMatrix h m =
+    let v = h .values in
+    record {
+      slots = h .slots;
+      values = record { matrix = m; viewport = v .viewport; scale = v .scale; lights = v .lights; lookat = v .lookat; unit = v .unit };
+      triangles = h .triangles;
+    }
+
+abbrev pub withViewport : Bench → List Float → Bench
+withViewport h x =
+    let v = h .values in
+    record {
+      slots = h .slots;
+      values = record { matrix = v .matrix; viewport = x; scale = v .scale; lights = v .lights; lookat = v .lookat; unit = v .unit };
+      triangles = h .triangles;
+    }
+
+-- the new combined matrix of the state t
+abbrev pub combines : State → Bench → Bench
+combines t h = withMatrix h (renewed (h .values .matrix) (t .combined))
+
+-- ---- load
+
+-- the texture scales are appended unless the first pair equals the last entry's
+abbrev pub rescaled : List Float → List Float → List Float
+rescaled last new = pick (matches eq (take 2 last) (take 2 new)) last new
+
+-- lights, or lookat axes, are folded when none are yet, when marked changed, or when the model top compares unequal to the one last folded
+abbrev pub lightsDue : Family → State → Bool
+lightsDue f s = lit f (s .geometry) && refold (s .lights .folded) (s .lights .changed) (s .lights .top) (laid (top s))
+
+abbrev pub lookatDue : Family → State → Bool
+lookatDue f s = not (eqb (texgenMode f (s .geometry)) 0) && refold (s .lookat .folded) (s .lookat .changed) (s .lookat .top) (laid (top s))
+
+-- what a load settles before its vertices
+unfoldable pub settles : Family → State → Values → Values
+settles f s v =
+    record {
+      matrix = pick (s .defined) (v .matrix) (renewed (v .matrix) (combinedNow s));
+      viewport = v .viewport;
+      scale = rescaled (v .scale) (scaleEntry (s .texture .sc) (s .texture .tc));
+      lights = pick (lightsDue f s) (lightEntries (rows (laid (top s)) 0) (s .lights .directions) (s .lights .colours) (s .lights .ambient) (s .lights .number)) (v .lights);
+      lookat = pick (lookatDue f s) (lookatEntry (rows (laid (top s)) 0) (s .lookat .axes)) (v .lookat);
+      unit = v .unit;
+    }
+
+-- a vertex by value
+unfoldable pub corner : Family → State → Values → Vertex → Corner
+corner f s h v =
+    record {
+      floats = floatsOf v;
+      flags = 0;
+      matrix = h .matrix;
+      viewport = h .viewport;
+      scale = h .scale;
+      colour = v .colour;
+      lights = pick (lit f (s .geometry)) (h .lights) [];
+      texgen = texgenMode f (s .geometry);
+      fog = pick (flag (f .fog) (s .geometry)) (some (fogPair s)) none;
+      lookat = pick (eqb (texgenMode f (s .geometry)) 0) none (some (h .lookat));
+    }
+
+-- the corners cs in the slots from k on
+abbrev pub seated : List Corner → ℕ → List Corner → List Corner
+seated l k [] = l
+seated l k (c ∷ cs) = seated (set l k c) (k + 1) cs
+
+-- the vertices in the slots from first on, once v is settled
+abbrev pub loads : Family → State → ℕ → List Vertex → Values → Bench → Bench
+loads f s first vs v h = record { slots = seated (h .slots) first (map (corner f s v) vs); values = v; triangles = h .triangles }
+
+-- ---- modify
+
+-- a corner with other floats and flags
+abbrev pub screened : Corner → List Float → ℕ → Corner
+screened v l n =
+    record {
+      floats = l;
+      flags = n;
+      matrix = v .matrix;
+      viewport = v .viewport;
+      scale = v .scale;
+      colour = v .colour;
+      lights = v .lights;
+      texgen = v .texgen;
+      fog = v .fog;
+      lookat = v .lookat;
+    }
+
+-- a corner with the change made in it: the lights and the fog go with a colour, texgen and lookat with a texture pair
+unfoldable pub changedBy : Change → Corner → Corner
+changedBy (Colour w) v =
+    record {
+      floats = v .floats;
+      flags = v .flags;
+      matrix = v .matrix;
+      viewport = v .viewport;
+      scale = v .scale;
+      colour = w;
+      lights = [];
+      texgen = v .texgen;
+      fog = none;
+      lookat = v .lookat;
+    }
+changedBy (Texture x y) v =
+    record {
+      floats = set (set (v .floats) 3 x) 4 y;
+      flags = v .flags;
+      matrix = v .matrix;
+      viewport = v .viewport;
+      scale = unitEntry;
+      colour = v .colour;
+      lights = v .lights;
+      texgen = 0;
+      fog = v .fog;
+      lookat = none;
+    }
+changedBy (Screen x y) v = screened v (set (set (v .floats) 5 x) 6 y) (bitOr (v .flags) 1)
+changedBy (Depth z own) v = screened v (set (v .floats) 7 z) (bitOr (v .flags) 2)
+
+-- a change needs the unit scale entry
+abbrev pub scaled : Change → Bool
+scaled (Colour w) = false
+scaled (Texture x y) = true
+scaled (Screen x y) = false
+scaled (Depth z own) = false
+
+-- the slot's corner changed; the unit scale entry is appended once
+unfoldable pub modifies : Asked → ℕ → Bench → Bench
+modifies Unknown slot h = h
+modifies (Known c) slot h =
+    let v = h .values in
+    record {
+      slots = set (h .slots) slot (changedBy c (getD (h .slots) slot noCorner));
+      values = record { matrix = v .matrix; viewport = v .viewport; scale = pick (scaled c && not (v .unit)) unitEntry (v .scale); lights = v .lights; lookat = v .lookat; unit = v .unit || scaled c };
+      triangles = h .triangles;
+    }
+
+-- ---- draw
+
+-- three corners in order, or the first and the last exchanged
+abbrev pub turnedAs : Bool → Corner → Corner → Corner → List Corner
+turnedAs swap a b c = pick swap (c ∷ b ∷ a ∷ []) (a ∷ b ∷ c ∷ [])
+
+-- what a draw gives: the three slots' values, and its six settings
+abbrev pub given : Family → State → Bench → ℕ → ℕ → ℕ → List ℕ → Triangle
+given f s h a b c asked =
+    record {
+      corners = turnedAs (swaps f (s .geometry)) (getD (h .slots) a noCorner) (getD (h .slots) b noCorner) (getD (h .slots) c noCorner);
+      settings = settings asked (culls f (s .geometry)) (s .microcode);
+    }
+
+-- a bench with one triangle more
+abbrev pub withTriangle : Bench → Triangle → Bench
+withTriangle h t = record { slots = h .slots; values = h .values; triangles = h .triangles ++ t ∷ [] }
+
+-- ---- commands
+
+-- an accepted command, with the states before and after it
+unfoldable pub act : Family → Command → State → State → Bench → Bench
+act f (matrix flags bytes at) s t h = combines t h
+act f (force bytes at) s t h = combines t h
+act f (pop count) s t h = pick (eqb (t .depth) (s .depth)) h (combines t h)
+act f (viewport bytes at) s t h = withViewport h (renewed (h .values .viewport) (t .viewport))
+act f (geometry off on) s t h = h
+act f (texture tile level on sc tc) s t h = h
+act f (fog multiplier offset) s t h = h
+act f (number bytes) s t h = h
+act f (light slot bytes at) s t h = h
+act f (lookat slot bytes at) s t h = h
+act f (microcode to) s t h = h
+act f (load first count bytes at) s t h = loads f s first (verticesAt bytes at count) (settles f s (h .values)) h
+act f (cull first last) s t h = h
+act f (depth slot threshold) s t h = h
+act f (modify slot attribute value) s t h = modifies (decoded attribute value) slot h
+act f (draw a b c material mode colour prim) s t h =
+    pick (both f (s .geometry)) h (withTriangle h (given f s h a b c (material ∷ mode ∷ colour ∷ prim ∷ [])))
+act f (ink colour) s t h = h
+
+-- only accepted commands reach the bench
+unfoldable pub obey : Family → Command → Plan → State → Bench → Bench
+obey f c (refuse n vs) s h = h
+obey f c (does vs t e) s h = act f c s t h
+
+-- the bench beside a port, through a sequence of commands of the machine m
+unfoldable pub bench : Family → Machine → List Command → Port → Bench → Bench
+bench f m [] p h = h
+bench f m (c ∷ cs) p h = bench f m cs (step m c p) (obey f c (m c (book p)) (p .state) h)

@@ -1,0 +1,4 @@
+pub mod Shown
+pub mod Bench
+pub mod Statement
+pub mod Broken

@@ -1,0 +1,48 @@
+-- What the theorem of demand 3 speaks of: two sequences from one opening, the bench beside them, and a triangle that stands. Definitions only.
+-- Machines that it refuses stand in Broken.antt.
+use Prim.Native.Nat.{ℕ, _/_, _≤_, _<_}
+use mathlib.Core.Path.{_≡_}
+use mathlib.Core.List.{List, [], _++_}
+use lib.ListN.{getD}
+use Rattle.decide.specs.Family.{Family}
+use Rattle.sequence.specs.Sequence.{Command, Areas, Port, Machine, Alike, book, plan, run, opening}
+use Rattle.finished.specs.Shown.{Triangle, triangleAt}
+use Rattle.finished.specs.Bench.{Bench, bench0, bench}
+
+-- the port after the commands cs of the machine m, from the opening of the areas l
+abbrev pub after : Machine → Areas → List Command → Port
+after m l cs = run m cs (opening l)
+
+-- the bench beside it
+abbrev pub beside : Family → Machine → ℕ → Areas → List Command → Bench
+beside f m slots l cs = bench f m cs (opening l) (bench0 slots)
+
+-- the triangles recorded: three indices each
+abbrev pub recorded : Port → ℕ
+recorded p = p .state .counts .indices / 3
+
+-- what the bench gave as triangle n
+abbrev pub noTriangle : Triangle
+noTriangle = record { corners = []; settings = [] }
+
+abbrev pub gave : Bench → ℕ → Triangle
+gave h n = getD (h .triangles) n noTriangle
+
+-- triangle n of a port is recorded, and shows T
+pub record Stands (p : Port) (n : ℕ) (T : Triangle) : Type 0 where
+  pub in-use : n < recorded p
+  pub shows : triangleAt (book p) n ≡ T
+
+-- A RECORDED TRIANGLE IS FINISHED. x and y: the areas of two sequences, whatever stands in them. cs: what the two have in common. ds and es: what
+-- each goes on with. Triangle n, recorded by the end of cs, shows at the end of both what the bench gave when it was drawn
+abbrev pub Finished : Family → Machine → ℕ → (x y : Areas) (cs ds es : List Command) (n : ℕ) → Type 0
+Finished f m slots x y cs ds es n =
+    n < recorded (after m x cs)
+    → Stands (after m x (cs ++ ds)) n (gave (beside f m slots x cs) n) × Stands (after m y (cs ++ es)) n (gave (beside f m slots x cs) n)
+
+-- DEMAND 3, of the stage: for every family of flag values, every number of slots up to 256, all areas of equal lengths, whatever stands in them and
+-- however little room they have, and all commands
+abbrev pub Demand3 : Type 0
+Demand3 =
+    (f : Family) (slots : ℕ) → slots ≤ 256 → (x y : Areas) → Alike x y → (cs ds es : List Command) (n : ℕ)
+    → Finished f (plan f slots) slots x y cs ds es n

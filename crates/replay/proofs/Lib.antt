@@ -1,0 +1,5 @@
+pub mod Acting
+pub mod Reading
+pub mod Rolling
+pub mod Patterns
+pub mod Serving

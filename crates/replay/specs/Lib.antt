@@ -1,0 +1,4 @@
+pub mod Script
+pub mod Header
+pub mod Acts
+pub mod Hash

@@ -1,0 +1,168 @@
+// The dump: the state, the entries in use, the slots, and a hash of each area.
+use crate::hash;
+use crate::show;
+use crate::slots;
+use crate::tables;
+use libc::STDOUT_FILENO;
+use stage::Counts;
+use stage::Lights;
+use stage::Lookat;
+use stage::State;
+
+fn settings(s: State) {
+    show::text(b"state");
+    show::word(s.depth);
+    show::word(s.geometry);
+    show::octet(s.microcode);
+    show::truth(s.defined);
+    show::octet(s.texture.tile);
+    show::octet(s.texture.level);
+    show::truth(s.texture.on);
+    show::half(s.texture.sc);
+    show::half(s.texture.tc);
+    show::signed(s.fogmul);
+    show::signed(s.fogoff);
+    show::word(s.lights.number);
+    show::end();
+}
+
+fn line(name: &[u8], xs: &[f32]) {
+    show::text(name);
+    tables::singles(xs);
+    show::end();
+}
+
+fn light_lines(l: Lights) {
+    let directions = l.directions;
+    let colours = l.colours;
+    let ambient = l.ambient;
+    tables::of_pairs(b"light", &directions, &colours, 3, 8);
+    line(b"ambient", &ambient);
+}
+
+fn lookat_lines(l: Lookat) {
+    let axes = l.axes;
+    tables::of_singles(b"look", &axes, 3, 2);
+}
+
+// The state's own lines. Of a stack deeper than 32 there are 32 matrices.
+fn state_lines(s: State) {
+    let stack = s.stack;
+    let projection = s.projection;
+    let viewport = s.viewport;
+    settings(s);
+    tables::of_singles(b"stack", &stack, 16, s.depth);
+    line(b"proj", &projection);
+    line(b"vp", &viewport);
+    light_lines(s.lights);
+    lookat_lines(s.lookat);
+}
+
+// The entries in use of each table.
+fn table_lines(
+    c: Counts,
+    matrices: &[f32],
+    viewports: &[f32],
+    scales: &[f32],
+    lights: &[f32],
+    lookats: &[f32],
+    fogs: &[i16],
+    floats: &[f32],
+    words: &[u32],
+    indices: &[u32],
+    runs: &[u32],
+) {
+    tables::of_singles(b"t1", matrices, 16, c.matrices);
+    tables::of_singles(b"t2", viewports, 6, c.viewports);
+    tables::of_singles(b"t3", scales, 4, c.scales);
+    tables::of_singles(b"t4", lights, 6, c.lights);
+    tables::of_singles(b"t5", lookats, 6, c.lookats);
+    tables::of_halves(b"t6", fogs, 2, c.fogs);
+    tables::of_rows(b"t7", floats, 9, words, 10, c.rows);
+    tables::of_words(b"t8", indices, 1, c.indices);
+    tables::of_words(b"t9", runs, 8, c.runs);
+}
+
+fn area(k: u32, h: u64) {
+    show::entry(b"area", k);
+    show::text(b" ");
+    io::print_decimal(STDOUT_FILENO, h);
+    show::end();
+}
+
+// The hash of each area, lent or not.
+fn area_lines(
+    matrices: &[f32],
+    viewports: &[f32],
+    scales: &[f32],
+    lights: &[f32],
+    lookats: &[f32],
+    fogs: &[i16],
+    floats: &[f32],
+    words: &[u32],
+    indices: &[u32],
+    runs: &[u32],
+) {
+    area(0, hash::of_singles(matrices));
+    area(1, hash::of_singles(viewports));
+    area(2, hash::of_singles(scales));
+    area(3, hash::of_singles(lights));
+    area(4, hash::of_singles(lookats));
+    area(5, hash::of_halves(fogs));
+    area(6, hash::of_singles(floats));
+    area(7, hash::of_words(words));
+    area(8, hash::of_words(indices));
+    area(9, hash::of_words(runs));
+}
+
+// Writes the dump.
+pub fn write(
+    s: State,
+    matrices: &[f32],
+    viewports: &[f32],
+    scales: &[f32],
+    lights: &[f32],
+    lookats: &[f32],
+    fogs: &[i16],
+    floats: &[f32],
+    words: &[u32],
+    indices: &[u32],
+    runs: &[u32],
+) {
+    show::text(b"end\nopen");
+    show::truth(s.opened);
+    show::end();
+    if s.opened {
+        let c = s.counts;
+        show::text(b"counts");
+        show::counts(c);
+        show::end();
+        state_lines(s);
+        table_lines(
+            c,
+            matrices,
+            viewports,
+            scales,
+            lights,
+            lookats,
+            fogs,
+            floats,
+            words,
+            indices,
+            runs,
+        );
+        slots::lines(s);
+    }
+    area_lines(
+        matrices,
+        viewports,
+        scales,
+        lights,
+        lookats,
+        fogs,
+        floats,
+        words,
+        indices,
+        runs,
+    );
+}

@@ -1,0 +1,151 @@
+// Replays a trace from standard input over the stage: a line for each op, and at the end the dump.
+ghost use Prim.Native.Nat.{_≤_};
+ghost use lib.ListN.{length};
+ghost use Rattle.replay.specs.Header.{Within};
+use rooms::Lengths;
+
+mod act;
+mod apply;
+mod dump;
+mod hash;
+mod header;
+mod ops;
+mod rooms;
+mod script;
+mod show;
+mod slots;
+mod tables;
+
+// Runs the ops of the script over the areas, and dumps what is left.
+fn run(
+    s: &[u8],
+    own: Lengths,
+    matrices: &mut [f32],
+    viewports: &mut [f32],
+    scales: &mut [f32],
+    lights: &mut [f32],
+    lookats: &mut [f32],
+    fogs: &mut [i16],
+    floats: &mut [f32],
+    words: &mut [u32],
+    indices: &mut [u32],
+    runs: &mut [u32],
+)
+    requires { ⌜ (44 ≤ length (now s)) × (length (now s) ≤ 262144) ⌝ }
+{
+    let mut lent = own;
+    let mut g = apply::unopened();
+    let mut at = rooms::HEADER;
+    let mut i = 0;
+    while at < s.len() {
+        let c = script::call_at(ops::shape_of(s[at]), s, at);
+        if !c.whole {
+            break;
+        }
+        let from = c.from;
+        let to = c.to;
+        g = apply::apply(
+            g.state,
+            c,
+            &s[from..to],
+            lent,
+            matrices,
+            viewports,
+            scales,
+            lights,
+            lookats,
+            fogs,
+            floats,
+            words,
+            indices,
+            runs,
+        );
+        lent = act::lent_after(lent, c);
+        let answer = g.answer;
+        let counts = g.state.counts;
+        show::answered(i, c.op, answer, counts);
+        at = to;
+        i = i + 1;
+    }
+    dump::write(
+        g.state,
+        matrices,
+        viewports,
+        scales,
+        lights,
+        lookats,
+        fogs,
+        floats,
+        words,
+        indices,
+        runs,
+    );
+}
+
+// Makes the areas, each number 7, and runs the script over them.
+fn replay(s: &[u8], own: Lengths)
+    requires { ⌜ (44 ≤ length (now s)) × ((length (now s) ≤ 262144) × Within own) ⌝ }
+{
+    let mut matrices = [7.0f32; rooms::MATRICES];
+    let mut viewports = [7.0f32; rooms::VIEWPORTS];
+    let mut scales = [7.0f32; rooms::SCALES];
+    let mut lights = [7.0f32; rooms::LIGHTS];
+    let mut lookats = [7.0f32; rooms::LOOKATS];
+    let mut fogs = [7i16; rooms::FOGS];
+    let mut floats = [7.0f32; rooms::FLOATS];
+    let mut words = [7u32; rooms::WORDS];
+    let mut indices = [7u32; rooms::INDICES];
+    let mut runs = [7u32; rooms::RUNS];
+    let n0 = own.matrices;
+    let n1 = own.viewports;
+    let n2 = own.scales;
+    let n3 = own.lights;
+    let n4 = own.lookats;
+    let n5 = own.fogs;
+    let n6 = own.floats;
+    let n7 = own.words;
+    let n8 = own.indices;
+    let n9 = own.runs;
+    run(
+        s,
+        own,
+        &mut matrices[..n0],
+        &mut viewports[..n1],
+        &mut scales[..n2],
+        &mut lights[..n3],
+        &mut lookats[..n4],
+        &mut fogs[..n5],
+        &mut floats[..n6],
+        &mut words[..n7],
+        &mut indices[..n8],
+        &mut runs[..n9],
+    );
+}
+
+// Judges the header, and replays the script where it can be served.
+fn judge(s: &[u8]) {
+    if s.len() > rooms::SCRIPT {
+        show::too_long(rooms::SCRIPT);
+        return;
+    }
+    if s.len() < rooms::HEADER {
+        show::text(b"replay: the header is cut short\n");
+        return;
+    }
+    if !header::is_trace(s) {
+        show::text(b"replay: the header does not begin with GST1\n");
+        return;
+    }
+    let own = header::lengths_of(s);
+    if !header::served(own) {
+        show::text(b"replay: the header asks for an area over its bound\n");
+        return;
+    }
+    replay(s, own);
+}
+
+fn main() {
+    let mut bytes = [0u8; rooms::SCRIPT + 1];
+    let n = io::read_full(libc::STDIN_FILENO, &mut bytes);
+    judge(&bytes[..n]);
+}

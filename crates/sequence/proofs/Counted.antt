@@ -1,0 +1,61 @@
+-- The counts of a state are the lengths of what is in use, and stay so. Assumes nothing.
+use mathlib.Core.Path.{_≡_}
+use Prim.Native.Nat.{ℕ}
+use lib.ListN.{length, length-append, length-set}
+use mathlib.Core.List.{List}
+use Rattle.stage.specs.declared.State.{State}
+use Rattle.stage.specs.declared.Counts.{Counts}
+use Rattle.stage.specs.Plan.{Edit, keep, grow, patch, Edits, counted}
+use Rattle.sequence.specs.Sequence.{Book}
+use Rattle.sequence.proofs.Turn.{edit, enter}
+
+-- how many entries of each table are in use
+abbrev pub lengths : Book → Counts
+lengths k =
+    record {
+      matrices = length (k .matrices .used);
+      viewports = length (k .viewports .used);
+      scales = length (k .scales .used);
+      lights = length (k .lights .used);
+      lookats = length (k .lookats .used);
+      fogs = length (k .fogs .used);
+      rows = length (k .rows .used);
+      indices = length (k .indices .used);
+      runs = length (k .runs .used);
+    }
+
+-- the counts c are the lengths n
+pub record CountsAre (c n : Counts) : Type 0 where
+  pub matrices : n .matrices ≡ c .matrices
+  pub viewports : n .viewports ≡ c .viewports
+  pub scales : n .scales ≡ c .scales
+  pub lights : n .lights ≡ c .lights
+  pub lookats : n .lookats ≡ c .lookats
+  pub fogs : n .fogs ≡ c .fogs
+  pub rows : n .rows ≡ c .rows
+  pub indices : n .indices ≡ c .indices
+  pub runs : n .runs ≡ c .runs
+
+-- the counts are the lengths of what is in use
+abbrev pub Counted : Book → Type 0
+Counted k = CountsAre (k .state .counts) (lengths k)
+
+pub edit-counted : {E : Type 0} (e : Edit E) (t : List E) (n : ℕ) → length t ≡ n → length (edit e t) ≡ counted e n
+edit-counted keep t n h = h
+edit-counted (grow es) t n h = rw (length-append t es, h)
+edit-counted (patch i x) t n h = rw (length-set t i x, h)
+
+-- they are so after any edits
+pub counted-then : (k : Book) (t : State) (e : Edits) → Counted k → Counted (enter t e k)
+counted-then k t e c =
+    record {
+      matrices = edit-counted (e .matrices) (k .matrices .used) _ (c .matrices);
+      viewports = edit-counted (e .viewports) (k .viewports .used) _ (c .viewports);
+      scales = edit-counted (e .scales) (k .scales .used) _ (c .scales);
+      lights = edit-counted (e .lights) (k .lights .used) _ (c .lights);
+      lookats = edit-counted (e .lookats) (k .lookats .used) _ (c .lookats);
+      fogs = edit-counted (e .fogs) (k .fogs .used) _ (c .fogs);
+      rows = edit-counted (e .rows) (k .rows .used) _ (c .rows);
+      indices = edit-counted (e .indices) (k .indices .used) _ (c .indices);
+      runs = edit-counted (e .runs) (k .runs .used) _ (c .runs);
+    }

@@ -1,0 +1,213 @@
+-- THE AREAS HOLD THE BOOK: what a command writes into the areas is what its plan enters into the book of them. So what a run leaves in use, and
+-- every answer, hang on what was in use before and on the areas' lengths alone. Assumes nothing.
+use mathlib.Core.Path.{_≡_, refl, sym, ap, _∙_}
+use Prim.Native.Nat.{ℕ, zero, suc, _+_, _*_, _≤_, min}
+use native.Mathlib.Nat.{add-zero}
+use native.Mathlib.Omega.{arith}
+use mathlib.Core.List.{List, [], _∷_, _++_, map}
+use lib.ListN.{length, set, length-map}
+use lib.Ieee.{Float}
+use Rattle.areas.specs.Area.{entries, room}
+use Rattle.areas.proofs.Tables.{length-entries, length-write, entries-grow, entries-set}
+use Rattle.decide.specs.Family.{Family}
+use Rattle.stage.specs.declared.State.{State}
+use Rattle.stage.specs.Plan.{table, Edit, keep, grow, patch, Row, rowsOf, rowTable, rowFloats, rowWords, only, Edits, Plan, refuse, does, more, counted, advance, after, settle}
+use Rattle.stage.specs.With.{withCounts}
+use Rattle.sequence.specs.Sequence.{Command, Areas, Port, Alike, book, plan, afterAll, result, step, run}
+use Rattle.sequence.proofs.Turn.{edit, edited, enter, turn, course}
+use Rattle.sequence.proofs.Accepts.{Accepted}
+use Rattle.sequence.proofs.Sized.{Sized, AllSized, Sizes, sized-plan}
+pub use Rattle.sequence.proofs.Sized.{Fits}
+
+-- ---- one table
+
+-- the count after an edit is as many more as it appends
+counted-more : {E : Type 0} (ed : Edit E) (n : ℕ) → counted ed n ≡ n + more ed
+counted-more keep n = sym (add-zero n)
+counted-more (grow es) n = refl
+counted-more (patch i e) n = sym (add-zero n)
+
+module _ {A : Type 0} (w n : ℕ) where
+  -- an edit leaves the area's length
+  length-after : (ed : Edit (List A)) (l : List A) → length (after w n ed l) ≡ length l
+  length-after keep l = refl
+  length-after (grow es) l = length-write w n es l
+  length-after (patch i e) l = length-write w i (e ∷ []) l
+
+  -- the entries in use after a sized edit lie in the area
+  fits-after : (ed : Edit (List A)) (l : List A) → Sized w n ed l → counted ed n * w ≤ length (after w n ed l)
+  fits-after ed l z = rw (counted-more ed n, length-after ed l) (z .room)
+
+  -- what is read after a sized edit of the area is the edit of what was read
+  entries-after : (ed : Edit (List A)) (l : List A) → Sized w n ed l → n * w ≤ length l → entries w (counted ed n) (after w n ed l) ≡ edit ed (entries w n l)
+  entries-after keep l z h = refl
+  entries-after (grow es) l z h = entries-grow w n es l (z .wide) (z .room)
+  entries-after (patch i e) l z h = entries-set w n i e l (z .wide .0) (z .wide .1) h
+
+  -- so the table after it is the table edited
+  table-after : (ed : Edit (List A)) (l : List A) → Sized w n ed l → n * w ≤ length l → table w (counted ed n) (after w n ed l) ≡ edited ed (table w n l)
+  table-after ed l z h = λ i. record { used = entries-after ed l z h i; room = room w (length-after ed l i) }
+
+-- ---- table 7 in its two areas
+
+-- the rows of their own numbers are they
+rows-split : (rs : List Row) → rowsOf (map rowFloats rs) (map rowWords rs) ≡ rs
+rows-split [] = refl
+rows-split (r ∷ rs) = ap (λ (l : List Row). r ∷ l) (rows-split rs)
+
+-- rows appended
+rows-append : (a b : List (List Float)) (c d : List (List ℕ)) → length a ≡ length c → rowsOf (a ++ b) (c ++ d) ≡ rowsOf a c ++ rowsOf b d
+rows-append [] b [] d e = refl
+rows-append [] b (y ∷ c) d e = absurd (let z : _≡_ {A = ℕ} 0 1 = cc in omega arith)
+rows-append (x ∷ a) b [] d e = absurd (let z : _≡_ {A = ℕ} 0 1 = cc in omega arith)
+rows-append (x ∷ a) b (y ∷ c) d e = ap (λ (l : List Row). record { floats = x; words = y } ∷ l) (rows-append a b c d (cc))
+
+-- a row replaced
+rows-set : (a : List (List Float)) (c : List (List ℕ)) (i : ℕ) (r : Row) → rowsOf (set a i (r .floats)) (set c i (r .words)) ≡ set (rowsOf a c) i r
+rows-set [] c i r = refl
+rows-set (x ∷ a) [] zero r = refl
+rows-set (x ∷ a) [] (suc i) r = refl
+rows-set (x ∷ a) (y ∷ c) zero r = refl
+rows-set (x ∷ a) (y ∷ c) (suc i) r = ap (λ (l : List Row). record { floats = x; words = y } ∷ l) (rows-set a c i r)
+
+-- an edit of both kinds of numbers is the edit of the rows
+rows-edit : (ed : Edit Row) (a : List (List Float)) (c : List (List ℕ)) → length a ≡ length c → rowsOf (edit (only rowFloats ed) a) (edit (only rowWords ed) c) ≡ edit ed (rowsOf a c)
+rows-edit keep a c e = refl
+rows-edit (grow rs) a c e = rw (rows-append a (map rowFloats rs) c (map rowWords rs) e, rows-split rs)
+rows-edit (patch i r) a c e = rows-set a c i r
+
+-- an edit of rows counts as its edit of one area does
+counted-only : {E F : Type 0} (f : E → F) (ed : Edit E) (n : ℕ) → counted (only f ed) n ≡ counted ed n
+counted-only f keep n = refl
+counted-only f (grow es) n = rw (length-map es f)
+counted-only f (patch i e) n = refl
+
+module _ (n : ℕ) (ed : Edit Row) (x : List Float) (y : List ℕ) (a : Sized 9 n (only rowFloats ed) x) (b : Sized 10 n (only rowWords ed) y) where
+  -- the rows in use after it lie in both areas
+  rows-fit : (counted ed n * 9 ≤ length (after 9 n (only rowFloats ed) x)) × (counted ed n * 10 ≤ length (after 10 n (only rowWords ed) y))
+  rows-fit = (
+    rw (counted-only rowFloats ed n) at (fits-after 9 n (only rowFloats ed) x a),
+    rw (counted-only rowWords ed n) at (fits-after 10 n (only rowWords ed) y b),
+  )
+
+  -- the table after an edit of both areas is the table edited
+  rows-after : n * 9 ≤ length x → n * 10 ≤ length y → rowTable (counted ed n) (after 9 n (only rowFloats ed) x) (after 10 n (only rowWords ed) y) ≡ edited ed (rowTable n x y)
+  rows-after h k =
+      let p : entries 9 (counted ed n) (after 9 n (only rowFloats ed) x) ≡ edit (only rowFloats ed) (entries 9 n x) =
+      rw (counted-only rowFloats ed n) at (entries-after 9 n (only rowFloats ed) x a h) in
+      let q : entries 10 (counted ed n) (after 10 n (only rowWords ed) y) ≡ edit (only rowWords ed) (entries 10 n y) =
+      rw (counted-only rowWords ed n) at (entries-after 10 n (only rowWords ed) y b k) in
+      let u = rows-edit ed (entries 9 n x) (entries 10 n y) (length-entries 9 n x ∙ sym (length-entries 10 n y)) in
+      let v : rowsOf (entries 9 (counted ed n) (after 9 n (only rowFloats ed) x)) (entries 10 (counted ed n) (after 10 n (only rowWords ed) y)) ≡ edit ed (rowsOf (entries 9 n x) (entries 10 n y)) =
+      (λ i. rowsOf (p i) (q i)) ∙ u in
+      λ i. record { used = v i; room = min (room 9 (length-after 9 n (only rowFloats ed) x i)) (room 10 (length-after 10 n (only rowWords ed) y i)) }
+
+-- ---- the whole port
+
+-- the port after a plan
+abbrev pub carry : Plan → Port → Port
+carry q p = record { state = settle afterAll q (p .state) (p .areas) .state; areas = settle afterAll q (p .state) (p .areas) .areas }
+
+module _ (p : Port) (h : Fits p) (vs : List ℕ) (t : State) (e : Edits) (z : AllSized (p .state .counts) e (p .areas)) where
+  -- what is done leaves the counted entries in the areas
+  done-fits : Fits (carry (does vs t e) p)
+  unfolding settle
+  done-fits =
+      let c = p .state .counts in
+      let l = p .areas in
+      let r = rows-fit (c .rows) (e .rows) (l .floats) (l .words) (z .floats) (z .words) in
+      record {
+        matrices = fits-after 16 _ _ _ (z .matrices);
+        viewports = fits-after 6 _ _ _ (z .viewports);
+        scales = fits-after 4 _ _ _ (z .scales);
+        lights = fits-after 6 _ _ _ (z .lights);
+        lookats = fits-after 6 _ _ _ (z .lookats);
+        fogs = fits-after 2 _ _ _ (z .fogs);
+        floats = r .0;
+        words = r .1;
+        indices = fits-after 1 _ _ _ (z .indices);
+        runs = fits-after 8 _ _ _ (z .runs);
+      }
+
+  -- no area changes its length
+  done-alike : Alike (carry (does vs t e) p .areas) (p .areas)
+  unfolding settle
+  done-alike =
+      record {
+        matrices = length-after 16 _ (e .matrices) _;
+        viewports = length-after 6 _ (e .viewports) _;
+        scales = length-after 4 _ (e .scales) _;
+        lights = length-after 6 _ (e .lights) _;
+        lookats = length-after 6 _ (e .lookats) _;
+        fogs = length-after 2 _ (e .fogs) _;
+        floats = length-after 9 _ (only rowFloats (e .rows)) _;
+        words = length-after 10 _ (only rowWords (e .rows)) _;
+        indices = length-after 1 _ (e .indices) _;
+        runs = length-after 8 _ (e .runs) _;
+      }
+
+  -- the areas then hold the book with the edits entered
+  done-book : book (carry (does vs t e) p) ≡ enter t e (book p)
+  unfolding settle book
+  done-book =
+      let c = p .state .counts in
+      let l = p .areas in
+      λ i.
+      record {
+        state = withCounts t (advance e c);
+        matrices = table-after 16 (c .matrices) (e .matrices) (l .matrices) (z .matrices) (h .matrices) i;
+        viewports = table-after 6 (c .viewports) (e .viewports) (l .viewports) (z .viewports) (h .viewports) i;
+        scales = table-after 4 (c .scales) (e .scales) (l .scales) (z .scales) (h .scales) i;
+        lights = table-after 6 (c .lights) (e .lights) (l .lights) (z .lights) (h .lights) i;
+        lookats = table-after 6 (c .lookats) (e .lookats) (l .lookats) (z .lookats) (h .lookats) i;
+        fogs = table-after 2 (c .fogs) (e .fogs) (l .fogs) (z .fogs) (h .fogs) i;
+        rows = rows-after (c .rows) (e .rows) (l .floats) (l .words) (z .floats) (z .words) (h .floats) (h .words) i;
+        indices = table-after 1 (c .indices) (e .indices) (l .indices) (z .indices) (h .indices) i;
+        runs = table-after 8 (c .runs) (e .runs) (l .runs) (z .runs) (h .runs) i;
+      }
+
+-- areas are as long as themselves
+pub alike-self : (l : Areas) → Alike l l
+alike-self l =
+    record {
+      matrices = refl;
+      viewports = refl;
+      scales = refl;
+      lights = refl;
+      lookats = refl;
+      fogs = refl;
+      floats = refl;
+      words = refl;
+      indices = refl;
+      runs = refl;
+    }
+
+-- a plan on the port and on its book
+pub carried : (p : Port) → Fits p → (q : Plan) → Accepted (Sizes p) q → Fits (carry q p) × Alike (carry q p .areas) (p .areas) × (book (carry q p) ≡ turn q (book p))
+unfolding settle turn Accepted
+carried p h (refuse n vs) z = (h, alike-self (p .areas), refl)
+carried p h (does vs t e) z = (done-fits p h vs t e z, done-alike p h vs t e z, done-book p h vs t e z)
+
+-- ---- commands
+
+-- ONE COMMAND on the port, and on its book
+pub step-book : (f : Family) (slots : ℕ) (c : Command) (p : Port)
+    → Fits p
+    → Fits (step (plan f slots) c p) × Alike (step (plan f slots) c p .areas) (p .areas) × (book (step (plan f slots) c p) ≡ turn (plan f slots c (book p)) (book p))
+unfolding step result
+step-book f slots c p h = carried p h (plan f slots c (book p)) (sized-plan p h f slots c)
+
+-- A SEQUENCE on the port, and on its book
+pub run-book : (f : Family) (slots : ℕ) (cs : List Command) (p : Port) → Fits p → Fits (run (plan f slots) cs p) × (book (run (plan f slots) cs p) ≡ course (plan f slots) cs (book p))
+unfolding run course
+run-book f slots [] p h = (h, refl)
+run-book f slots (c ∷ cs) p h =
+    let s = step-book f slots c p h in
+    let r = run-book f slots cs (step (plan f slots) c p) (s .0) in
+    (r .0, r .1 ∙ ap (course (plan f slots) cs) (s .2))
+
+-- two sequences run as one
+pub run-append : (f : Family) (slots : ℕ) (cs ds : List Command) (p : Port) → run (plan f slots) (cs ++ ds) p ≡ run (plan f slots) ds (run (plan f slots) cs p)
+unfolding run
+run-append f slots [] ds p = refl
+run-append f slots (c ∷ cs) ds p = run-append f slots cs ds (step (plan f slots) c p)

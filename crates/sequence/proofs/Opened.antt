@@ -1,0 +1,185 @@
+-- Opening, by the areas' lengths alone; and a state that is not opened: every command refuses it and changes nothing. Assumes nothing.
+use mathlib.Core.Path.{_≡_, refl, ap, _∙_}
+use Prim.Native.Nat.{ℕ, _≤_, min}
+use native.Mathlib.Omega.{arith}
+use mathlib.Core.Bool.{Bool, true, false, _&&_, false≢true}
+use mathlib.Core.List.{List, [], _∷_}
+use lib.ListN.{length}
+use lib.Dec.{leb}
+use lib.Ieee.{Float}
+use borrow.Author.Tests.{le-leb}
+use Rattle.areas.specs.Area.{room}
+use Rattle.decide.specs.Family.{Family}
+use Rattle.matrix.specs.Math.{unit, laid}
+use Rattle.matrix.proofs.Believe.{length-laid}
+use Rattle.stage.specs.declared.State.{State}
+use Rattle.stage.specs.declared.Counts.{Counts}
+use Rattle.stage.specs.Plan.{grow, Plan, refuse, does, unless, settle}
+use Rattle.stage.specs.Sound.{all, stateSound, sound}
+use Rattle.stage.specs.With.{withCounts}
+use Rattle.stage.specs.Opening.{zeros, blank, opened, openingEdits, openingPlan, areas12}
+use Rattle.stage.specs.Matrices.{matrixPlan, forcePlan, popPlan, viewportPlan, geometryPlan}
+use Rattle.stage.specs.Lights.{texturePlan, fogPlan, numberPlan, lightPlan, lookatPlan, microcodePlan}
+use Rattle.stage.specs.Load.{loadPlan}
+use Rattle.stage.specs.Modify.{modifyPlan, inkPlan}
+use Rattle.stage.specs.Draw.{cullPlan, depthPlan, drawPlan}
+use Rattle.sequence.specs.Sequence.{Command, matrix, force, pop, viewport, geometry, texture, fog, number, light, lookat, microcode, load, cull, depth, modify, draw, ink, Areas, Port, Book, Alike, book, plan, result, step, run, with12, opening}
+use Rattle.sequence.proofs.Turn.{turn}
+use Rattle.sequence.proofs.Accepts.{Accepted}
+use Rattle.sequence.proofs.Sized.{Fits, AllSized, kept, fitted}
+use Rattle.sequence.proofs.Held.{carry, carried}
+
+-- ---- opening
+
+-- one entry in tables 1 and 2
+abbrev pub opened-counts : Counts
+opened-counts = record { matrices = 1; viewports = 1; scales = 0; lights = 0; lookats = 0; fogs = 0; rows = 0; indices = 0; runs = 0 }
+
+-- the book of areas that were opened
+abbrev pub opened-book : Areas → Book
+opened-book l =
+    record {
+      state = withCounts opened opened-counts;
+      matrices = record { used = laid unit ∷ []; room = room 16 (length (l .matrices)) };
+      viewports = record { used = zeros 6 ∷ []; room = room 6 (length (l .viewports)) };
+      scales = record { used = []; room = room 4 (length (l .scales)) };
+      lights = record { used = []; room = room 6 (length (l .lights)) };
+      lookats = record { used = []; room = room 6 (length (l .lookats)) };
+      fogs = record { used = []; room = room 2 (length (l .fogs)) };
+      rows = record { used = []; room = min (room 9 (length (l .floats))) (room 10 (length (l .words))) };
+      indices = record { used = []; room = room 1 (length (l .indices)) };
+      runs = record { used = []; room = room 8 (length (l .runs)) };
+    }
+
+-- areas of equal lengths open to the same book
+pub opened-alike : (x y : Areas) → Alike x y → opened-book x ≡ opened-book y
+opened-alike x y e =
+    λ i.
+    record {
+      state = withCounts opened opened-counts;
+      matrices = record { used = laid unit ∷ []; room = room 16 (e .matrices i) };
+      viewports = record { used = zeros 6 ∷ []; room = room 6 (e .viewports i) };
+      scales = record { used = []; room = room 4 (e .scales i) };
+      lights = record { used = []; room = room 6 (e .lights i) };
+      lookats = record { used = []; room = room 6 (e .lookats i) };
+      fogs = record { used = []; room = room 2 (e .fogs i) };
+      rows = record { used = []; room = min (room 9 (e .floats i)) (room 10 (e .words i)) };
+      indices = record { used = []; room = room 1 (e .indices i) };
+      runs = record { used = []; room = room 8 (e .runs i) };
+    }
+
+-- the areas before they are opened
+abbrev pub unopened : Areas → Port
+unopened l = record { state = blank false; areas = l }
+
+-- nothing is in use there
+none-used : (l : Areas) → Fits (unopened l)
+unfolding blank
+none-used l =
+    record {
+      matrices = omega arith;
+      viewports = omega arith;
+      scales = omega arith;
+      lights = omega arith;
+      lookats = omega arith;
+      fogs = omega arith;
+      floats = omega arith;
+      words = omega arith;
+      indices = omega arith;
+      runs = omega arith;
+    }
+
+module _ (l : Areas) (h : 1 ≤ room 16 (length (l .matrices))) (k : 1 ≤ room 6 (length (l .viewports))) where
+  -- where there is room for both entries opening is accepted
+  open-plan : openingPlan (l .matrices) (l .viewports) ≡ does [] opened openingEdits
+  unfolding openingPlan unless
+  open-plan = rw (le-leb 1 (room 16 (length (l .matrices))) h, le-leb 1 (room 6 (length (l .viewports))) k)
+
+  -- it is a plan on the areas before
+  open-done : opening l ≡ carry (does [] opened openingEdits) (unopened l)
+  unfolding opening settle
+  open-done = rw open-plan
+
+  -- its edits are sized
+  open-sized : AllSized (blank false .counts) openingEdits l
+  unfolding blank
+  open-sized =
+      let z = none-used l in
+      record {
+        matrices = fitted 16 0 (grow (laid unit ∷ [])) (l .matrices) (length-laid unit, tt) h;
+        viewports = fitted 6 0 (grow (zeros 6 ∷ [])) (l .viewports) (refl, tt) k;
+        scales = kept 4 0 _ (z .scales);
+        lights = kept 6 0 _ (z .lights);
+        lookats = kept 6 0 _ (z .lookats);
+        fogs = kept 2 0 _ (z .fogs);
+        floats = kept 9 0 _ (z .floats);
+        words = kept 10 0 _ (z .words);
+        indices = kept 1 0 _ (z .indices);
+        runs = kept 8 0 _ (z .runs);
+      }
+
+  -- what is entered into an empty book
+  open-turn : turn (does [] opened openingEdits) (book (unopened l)) ≡ opened-book l
+  unfolding turn book blank
+  open-turn = refl
+
+-- THE BOOK OF AN OPENING
+pub open-book : (l : Areas) → 1 ≤ room 16 (length (l .matrices)) → 1 ≤ room 6 (length (l .viewports)) → Fits (opening l) × (book (opening l) ≡ opened-book l)
+unfolding Accepted
+open-book l h k =
+    let c = carried (unopened l) (none-used l) (does [] opened openingEdits) (open-sized l h k) in
+    rw (open-done l h k) (c .0, c .2 ∙ open-turn l h k)
+
+-- two tests of which one fails refuse
+refused : (a b : Bool) (vs ws : List ℕ) (q : Plan) (l : Areas) → a && b ≡ false
+    → let x : List Float × List Float = (l .matrices, l .viewports) in
+    let o = settle areas12 (unless a 9 vs (unless b 9 ws q)) (blank false) x in
+    record { state = o .state; areas = with12 l (o .areas) } ≡ unopened l
+unfolding settle unless
+refused true true vs ws q l e = absurd (false≢true (cc))
+refused true false vs ws q l e = refl
+refused false b vs ws q l e = refl
+
+-- AN OPENING THAT IS REFUSED leaves state and areas as they were
+pub open-refused : (l : Areas) → leb 1 (room 16 (length (l .matrices))) && leb 1 (room 6 (length (l .viewports))) ≡ false → opening l ≡ record { state = blank false; areas = l }
+unfolding opening openingPlan
+open-refused l e = refused _ _ _ _ _ l e
+
+-- ---- a state that is not opened
+
+-- it is refused before anything else is looked at
+unsound : (s : State) (q : Plan) → s .opened ≡ false → sound s q ≡ refuse 10 []
+unfolding stateSound all unless
+unsound s q h = rw h
+
+-- every command refuses it
+pub shut-plan : (f : Family) (slots : ℕ) (c : Command) (k : Book) → k .state .opened ≡ false → plan f slots c k ≡ refuse 10 []
+unfolding plan matrixPlan forcePlan popPlan viewportPlan geometryPlan texturePlan fogPlan numberPlan lightPlan lookatPlan microcodePlan loadPlan cullPlan depthPlan modifyPlan drawPlan inkPlan
+shut-plan f slots (matrix flags bytes at) k h = unsound (k .state) _ h
+shut-plan f slots (force bytes at) k h = unsound (k .state) _ h
+shut-plan f slots (pop count) k h = unsound (k .state) _ h
+shut-plan f slots (viewport bytes at) k h = unsound (k .state) _ h
+shut-plan f slots (geometry off on) k h = unsound (k .state) _ h
+shut-plan f slots (texture tile level on sc tc) k h = unsound (k .state) _ h
+shut-plan f slots (fog multiplier offset) k h = unsound (k .state) _ h
+shut-plan f slots (number bytes) k h = unsound (k .state) _ h
+shut-plan f slots (light slot bytes at) k h = unsound (k .state) _ h
+shut-plan f slots (lookat slot bytes at) k h = unsound (k .state) _ h
+shut-plan f slots (microcode to) k h = unsound (k .state) _ h
+shut-plan f slots (load first count bytes at) k h = unsound (k .state) _ h
+shut-plan f slots (cull first last) k h = unsound (k .state) _ h
+shut-plan f slots (depth slot threshold) k h = unsound (k .state) _ h
+shut-plan f slots (modify slot attribute value) k h = unsound (k .state) _ h
+shut-plan f slots (draw a b c material mode colour prim) k h = unsound (k .state) _ h
+shut-plan f slots (ink colour) k h = unsound (k .state) _ h
+
+-- and leaves it and the areas
+pub shut : (f : Family) (slots : ℕ) (c : Command) (p : Port) → p .state .opened ≡ false → step (plan f slots) c p ≡ p
+unfolding step result settle book
+shut f slots c p h = rw (shut-plan f slots c (book p) h)
+
+-- so does a sequence of commands
+pub run-shut : (f : Family) (slots : ℕ) (cs : List Command) (p : Port) → p .state .opened ≡ false → run (plan f slots) cs p ≡ p
+unfolding run
+run-shut f slots [] p h = refl
+run-shut f slots (c ∷ cs) p h = ap (run (plan f slots) cs) (shut f slots c p h) ∙ run-shut f slots cs p h

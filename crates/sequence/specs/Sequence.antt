@@ -1,0 +1,197 @@
+-- A sequence of commands, each given the state that the one before handed back and the same ten areas. Definitions only.
+-- What a command does is its plan of the stage's specs/, the one that its contract cites; the laws of proofs/Joined.antt say so.
+use Prim.Native.Nat.{ℕ}
+use mathlib.Core.Bool.{Bool, false}
+use mathlib.Core.List.{List, [], _∷_}
+use mathlib.Core.Path.{_≡_}
+use lib.ListN.{length}
+use lib.IntN.{ℤ}
+use lib.Ieee.{Float}
+use Rattle.decide.specs.Family.{Family}
+use Rattle.decide.specs.Lights.{lightNumber}
+use Rattle.stage.specs.declared.State.{State}
+use Rattle.stage.specs.declared.Counts.{Counts}
+use Rattle.stage.specs.declared.settings.Microcode.{Microcode}
+use Rattle.stage.specs.Plan.{Table, table, rowTable, Row, rowFloats, rowWords, only, Edits, Plan, after, Outcome, settle}
+use Rattle.stage.specs.Opening.{blank, openingPlan, areas12}
+use Rattle.stage.specs.Matrices.{matrixPlan, forcePlan, popPlan, viewportPlan, geometryPlan}
+use Rattle.stage.specs.Lights.{texturePlan, fogPlan, numberPlan, lightPlan, lookatPlan, microcodePlan}
+use Rattle.stage.specs.Load.{LoadTables, loadPlan}
+use Rattle.stage.specs.Modify.{modifyPlan, inkPlan}
+use Rattle.stage.specs.Draw.{cullPlan, depthPlan, drawPlan}
+
+-- every public command but opening, with its arguments; data is bytes and the place from which they are read
+pub data Command : Type 0 where
+  -- flags, data
+  matrix : ℕ → List ℕ → ℕ → Command
+  force : List ℕ → ℕ → Command
+  -- count
+  pop : ℕ → Command
+  viewport : List ℕ → ℕ → Command
+  -- off, on
+  geometry : ℕ → ℕ → Command
+  -- tile, level, on, sc, tc
+  texture : ℕ → ℕ → Bool → ℕ → ℕ → Command
+  -- multiplier, offset
+  fog : ℤ → ℤ → Command
+  -- bytes
+  number : ℕ → Command
+  -- slot, data
+  light : ℕ → List ℕ → ℕ → Command
+  lookat : ℕ → List ℕ → ℕ → Command
+  microcode : Microcode → Command
+  -- first slot, count, data
+  load : ℕ → ℕ → List ℕ → ℕ → Command
+  -- first, last
+  cull : ℕ → ℕ → Command
+  -- slot, threshold
+  depth : ℕ → ℕ → Command
+  -- slot, attribute, value
+  modify : ℕ → ℕ → ℕ → Command
+  -- slots a, b, c; material, render mode, fog colour, primitive depth
+  draw : ℕ → ℕ → ℕ → ℕ → ℕ → ℕ → ℕ → Command
+  -- colour word
+  ink : ℕ → Command
+
+-- the ten areas lent by the caller, table 7 in two
+pub record Areas : Type 0 where
+  pub matrices : List Float
+  pub viewports : List Float
+  pub scales : List Float
+  pub lights : List Float
+  pub lookats : List Float
+  pub fogs : List ℤ
+  pub floats : List Float
+  pub words : List ℕ
+  pub indices : List ℕ
+  pub runs : List ℕ
+
+-- a state, and the areas that are lent with it
+pub record Port : Type 0 where
+  pub state : State
+  pub areas : Areas
+
+-- a state, and what is in use of the nine tables
+pub record Book : Type 0 where
+  pub state : State
+  pub matrices : Table (List Float)
+  pub viewports : Table (List Float)
+  pub scales : Table (List Float)
+  pub lights : Table (List Float)
+  pub lookats : Table (List Float)
+  pub fogs : Table (List ℤ)
+  pub rows : Table Row
+  pub indices : Table (List ℕ)
+  pub runs : Table (List ℕ)
+
+-- the book of a port: its counts say how much of each area is in use
+unfoldable pub book : Port → Book
+book p =
+    let c = p .state .counts in
+    let l = p .areas in
+    record {
+      state = p .state;
+      matrices = table 16 (c .matrices) (l .matrices);
+      viewports = table 6 (c .viewports) (l .viewports);
+      scales = table 4 (c .scales) (l .scales);
+      lights = table 6 (c .lights) (l .lights);
+      lookats = table 6 (c .lookats) (l .lookats);
+      fogs = table 2 (c .fogs) (l .fogs);
+      rows = rowTable (c .rows) (l .floats) (l .words);
+      indices = table 1 (c .indices) (l .indices);
+      runs = table 8 (c .runs) (l .runs);
+    }
+
+-- the tables of a load
+abbrev pub loadOf : Book → LoadTables
+loadOf k = record { matrices = k .matrices; scales = k .scales; lights = k .lights; lookats = k .lookats; fogs = k .fogs; rows = k .rows }
+
+-- the plan of each command, for a family of microcodes and a number of slots
+unfoldable pub plan : Family → ℕ → Command → Book → Plan
+plan f slots (matrix flags bytes at) k = matrixPlan f (k .state) (k .matrices) flags bytes at
+plan f slots (force bytes at) k = forcePlan (k .state) (k .matrices) bytes at
+plan f slots (pop count) k = popPlan (k .state) (k .matrices) count
+plan f slots (viewport bytes at) k = viewportPlan (k .state) (k .viewports) bytes at
+plan f slots (geometry off on) k = geometryPlan f (k .state) off on
+plan f slots (texture tile level on sc tc) k = texturePlan (k .state) tile level on sc tc
+plan f slots (fog multiplier offset) k = fogPlan (k .state) multiplier offset
+plan f slots (number bytes) k = numberPlan (k .state) (lightNumber bytes)
+plan f slots (light slot bytes at) k = lightPlan (k .state) slot bytes at
+plan f slots (lookat slot bytes at) k = lookatPlan (k .state) slot bytes at
+plan f slots (microcode to) k = microcodePlan (k .state) to
+plan f slots (load first count bytes at) k = loadPlan f slots (k .state) (loadOf k) first count bytes at
+plan f slots (cull first last) k = cullPlan slots (k .state) first last
+plan f slots (depth slot threshold) k = depthPlan slots (k .state) slot threshold
+plan f slots (modify slot attribute value) k = modifyPlan slots (k .state) (k .scales) (k .rows) slot attribute value
+plan f slots (draw a b c material mode colour prim) k =
+    drawPlan f slots (k .state) (k .indices) (k .runs) a b c (material ∷ mode ∷ colour ∷ prim ∷ [])
+plan f slots (ink colour) k = inkPlan (k .state) (k .rows) (k .indices) colour
+
+-- all ten areas after a command's edits; a number that no edit names stays
+abbrev pub afterAll : Counts → Edits → Areas → Areas
+afterAll c e l =
+    record {
+      matrices = after 16 (c .matrices) (e .matrices) (l .matrices);
+      viewports = after 6 (c .viewports) (e .viewports) (l .viewports);
+      scales = after 4 (c .scales) (e .scales) (l .scales);
+      lights = after 6 (c .lights) (e .lights) (l .lights);
+      lookats = after 6 (c .lookats) (e .lookats) (l .lookats);
+      fogs = after 2 (c .fogs) (e .fogs) (l .fogs);
+      floats = after 9 (c .rows) (only rowFloats (e .rows)) (l .floats);
+      words = after 10 (c .rows) (only rowWords (e .rows)) (l .words);
+      indices = after 1 (c .indices) (e .indices) (l .indices);
+      runs = after 8 (c .runs) (e .runs) (l .runs);
+    }
+
+-- a machine says what each command does to a book; the stage is `plan f slots`
+abbrev pub Machine : Type 0
+Machine = Command → Book → Plan
+
+-- what a command comes to: answer, state and areas
+unfoldable pub result : Machine → Command → Port → Outcome Areas
+result m c p = settle afterAll (m c (book p)) (p .state) (p .areas)
+
+-- the port after a command
+unfoldable pub step : Machine → Command → Port → Port
+step m c p = record { state = result m c p .state; areas = result m c p .areas }
+
+-- the port after a sequence of commands
+unfoldable pub run : Machine → List Command → Port → Port
+run m [] p = p
+run m (c ∷ cs) p = run m cs (step m c p)
+
+-- the areas with tables 1 and 2 replaced
+abbrev pub with12 : Areas → List Float × List Float → Areas
+with12 l x =
+    record {
+      matrices = x .0;
+      viewports = x .1;
+      scales = l .scales;
+      lights = l .lights;
+      lookats = l .lookats;
+      fogs = l .fogs;
+      floats = l .floats;
+      words = l .words;
+      indices = l .indices;
+      runs = l .runs;
+    }
+
+-- the port after opening, also where opening is refused: then the state is not opened
+unfoldable pub opening : Areas → Port
+opening l =
+    let x : List Float × List Float = (l .matrices, l .viewports) in
+    let o = settle areas12 (openingPlan (l .matrices) (l .viewports)) (blank false) x in
+    record { state = o .state; areas = with12 l (o .areas) }
+
+-- areas of equal lengths, whatever stands in them
+pub record Alike (x y : Areas) : Type 0 where
+  pub matrices : length (x .matrices) ≡ length (y .matrices)
+  pub viewports : length (x .viewports) ≡ length (y .viewports)
+  pub scales : length (x .scales) ≡ length (y .scales)
+  pub lights : length (x .lights) ≡ length (y .lights)
+  pub lookats : length (x .lookats) ≡ length (y .lookats)
+  pub fogs : length (x .fogs) ≡ length (y .fogs)
+  pub floats : length (x .floats) ≡ length (y .floats)
+  pub words : length (x .words) ≡ length (y .words)
+  pub indices : length (x .indices) ≡ length (y .indices)
+  pub runs : length (x .runs) ≡ length (y .runs)
