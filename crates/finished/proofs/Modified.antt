@@ -30,24 +30,10 @@ use Rattle.finished.proofs.Growing.{Sound, Grown}
 use Rattle.finished.proofs.Standing.{Standing, tables-grow, row-filled, row-changed}
 use Rattle.finished.proofs.Settled.{longer-if}
 use Rattle.sequence.proofs.Counted.{counted-then}
+use Rattle.sequence.proofs.Spelled.{ten}
 use Rattle.finished.proofs.Ties.{partsOf, CurrentIn, Inv, grown-same}
 
 -- ---- a row with the change made in it
-
--- what holds of ten numbers holds of a list of that length
-ten : (P : List ℕ → Type 0) → ((a b c d e f g h i j : ℕ) → P (a ∷ b ∷ c ∷ d ∷ e ∷ f ∷ g ∷ h ∷ i ∷ j ∷ [])) → (l : List ℕ) → length l ≡ 10 → P l
-ten P p [] n = absurd (omega arith)
-ten P p (a ∷ []) n = absurd (omega arith)
-ten P p (a ∷ b ∷ []) n = absurd (omega arith)
-ten P p (a ∷ b ∷ c ∷ []) n = absurd (omega arith)
-ten P p (a ∷ b ∷ c ∷ d ∷ []) n = absurd (omega arith)
-ten P p (a ∷ b ∷ c ∷ d ∷ e ∷ []) n = absurd (omega arith)
-ten P p (a ∷ b ∷ c ∷ d ∷ e ∷ f ∷ []) n = absurd (omega arith)
-ten P p (a ∷ b ∷ c ∷ d ∷ e ∷ f ∷ g ∷ []) n = absurd (omega arith)
-ten P p (a ∷ b ∷ c ∷ d ∷ e ∷ f ∷ g ∷ h ∷ []) n = absurd (omega arith)
-ten P p (a ∷ b ∷ c ∷ d ∷ e ∷ f ∷ g ∷ h ∷ i ∷ []) n = absurd (omega arith)
-ten P p (a ∷ b ∷ c ∷ d ∷ e ∷ f ∷ g ∷ h ∷ i ∷ j ∷ []) n = p a b c d e f g h i j
-ten P p (a ∷ b ∷ c ∷ d ∷ e ∷ f ∷ g ∷ h ∷ i ∷ j ∷ k ∷ l) n = absurd (omega arith)
 
 module _ (t : Entries) (u : ℕ) where
   -- a change that needs the unit scale entry finds it at u - 1

@@ -6,3 +6,4 @@ pub mod Sized
 pub mod Held
 pub mod Opened
 pub mod Joined
+pub mod Spelled

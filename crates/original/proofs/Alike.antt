@@ -1,0 +1,381 @@
+-- The small pieces of the original and of the port are alike: flags, products, comparisons, clip code, screen z, pops, fog, lights. Assumes nothing.
+use mathlib.Core.Path.{_≡_, refl, sym, ap, ap₂, _∙_}
+use Prim.Native.Nat.{ℕ, zero, suc, _+_, _-_, _*_, _/_, _%_, _^_, _≤_, _<_}
+use native.Mathlib.Nat.{zero-add, zero-mul, one-mul, pow-suc}
+use native.Mathlib.Numerals.{one-add, add-one}
+use native.Mathlib.Omega.{arith}
+use mathlib.Core.Bool.{Bool, true, false, not, _&&_, _||_, cond, Bool·beq}
+use mathlib.Core.List.{List, [], _∷_, _++_, map, map-append}
+use mathlib.Core.Option.{Option, none, some}
+use lib.ListN.{length, getD, take, length-take, length-map, List·getD-map}
+use lib.Bits.{bitAnd, bitXor, and-high, xor-shr, xor-mod, or-shifted-r}
+use lib.Pow.{pow-pos}
+use lib.Dec.{eqb, ltb}
+use lib.IntN.{ℤ, pos}
+use lib.Ieee.{Float, nan, neg, lt, eq, ne}
+use lib.Ieee.Scale.{finite}
+use borrow.Author.Tests.{ltb-true, ltb-false, lt-ltb, ne-eqb}
+use Rattle.areas.specs.Area.{matches, Wide}
+use Rattle.matrix.specs.Math.{unit, times, rowTimes, colTimes, laid}
+use Rattle.matrix.specs.Clip.{bitOf, bitsOf, allFinite, codeOf, screenOf, depthOf}
+use Rattle.matrix.specs.declared.clip.ClipCode.{ClipCode}
+use Rattle.matrix.specs.declared.clip.ScreenZ.{ScreenZ}
+use Rattle.decide.specs.Family.{f3dex2, flag, lit, texgenMode}
+use Rattle.decide.specs.Stack.{popped, relit}
+use Rattle.triangle.specs.Slot.{both, culls, swaps}
+use Rattle.fold.specs.Direction.{three, folded}
+use Rattle.fold.specs.Fog.{find}
+use Rattle.fold.specs.Lights.{lightEntry, directional}
+use Rattle.fold.specs.Lookat.{lookatEntry}
+use Rattle.fold.specs.Scales.{sameScale}
+use Rattle.stage.proofs.Judged.{and-assoc, and-true}
+use Rattle.sequence.proofs.Sized.{wide-at}
+use Rattle.original.specs.Math.{f0, ix, identity, mul4, mul-row-vec4, mul-col-vec3}
+use Rattle.original.specs.Rsp.{has, g-mtx-push, g-mtx-load, g-mtx-projection, g-lighting, g-texture-gen, g-texture-gen-linear, g-fog-geom, g-cull-front, g-cull-both, eq-mat, eq-entry, last-is, popped-size}
+use Rattle.original.specs.Drawing.{eq2, unit-length, fold-lights, texgen-of, position, plane, clip-code, screen-of}
+
+-- ---- flags
+
+-- a mask of one bit picks that bit
+pub and-bit : (x k : ℕ) → bitAnd x (2 ^ k) ≡ (x / 2 ^ k % 2) * 2 ^ k
+and-bit x k =
+    let e : 2 ^ (1 + k) - 2 ^ k ≡ 2 ^ k = rw (one-add k, pow-suc 2 k) (omega arith) in
+    ap (λ (m : ℕ). bitAnd x m) (sym e) ∙ and-high x 1 k
+
+-- a bit, shifted, is not zero just where it is 1
+pub shifted : (b p : ℕ) → b < 2 → 0 < p → not (eqb (b * p) 0) ≡ eqb b 1
+shifted zero p h q = rw zero-mul
+shifted (suc zero) p h q = rw (one-mul p, ne-eqb p 0 (λ e. omega arith))
+shifted (suc (suc b)) p h q = absurd (omega arith)
+
+-- the test by a mask of one bit is the test of the flag
+pub has-flag : (x k : ℕ) → has x (2 ^ k) ≡ flag (2 ^ k) x
+has-flag x k = ap (λ (n : ℕ). not (eqb n 0)) (and-bit x k) ∙ shifted (x / 2 ^ k % 2) (2 ^ k) (omega arith) (pow-pos k)
+
+-- lighting
+pub has-lighting : (g : ℕ) → has g g-lighting ≡ lit f3dex2 g
+has-lighting g = has-flag g 17
+
+-- texture generation
+pub has-texgen : (g : ℕ) → has g g-texture-gen ≡ flag (f3dex2 .texgen) g
+has-texgen g = has-flag g 18
+
+-- linear texture generation
+pub has-linear : (g : ℕ) → has g g-texture-gen-linear ≡ flag (f3dex2 .linear) g
+has-linear g = has-flag g 19
+
+-- fog
+pub has-fog : (g : ℕ) → has g g-fog-geom ≡ flag (f3dex2 .fog) g
+has-fog g = has-flag g 16
+
+-- push
+pub has-push : (p : ℕ) → has p g-mtx-push ≡ flag (f3dex2 .push) p
+has-push p = has-flag p 0
+
+-- load
+pub has-load : (p : ℕ) → has p g-mtx-load ≡ flag (f3dex2 .load) p
+has-load p = has-flag p 1
+
+-- projection
+pub has-projection : (p : ℕ) → has p g-mtx-projection ≡ flag (f3dex2 .projection) p
+has-projection p = has-flag p 2
+
+-- the texgen mode
+pub texgen-same : (g : ℕ) → texgen-of (has g g-lighting) g ≡ texgenMode f3dex2 g
+unfolding texgen-of texgenMode
+texgen-same g =
+    ap₂ (λ (a b : Bool). cond (a && b) (cond (has g g-texture-gen-linear) 2 1) 0) (has-lighting g) (has-texgen g)
+    ∙ ap (λ (c : Bool). cond (lit f3dex2 g && flag (f3dex2 .texgen) g) (cond c 2 1) 0) (has-linear g)
+
+-- two bits differ
+pub differing : (a b : ℕ) → a < 2 → b < 2 → eqb (bitXor a b) 1 ≡ not (Bool·beq (eqb a 1) (eqb b 1))
+differing zero zero h k = refl
+differing zero (suc zero) h k = refl
+differing zero (suc (suc b)) h k = absurd (omega arith)
+differing (suc zero) zero h k = refl
+differing (suc zero) (suc zero) h k = refl
+differing (suc zero) (suc (suc b)) h k = absurd (omega arith)
+differing (suc (suc a)) b h k = absurd (omega arith)
+
+-- the lighting bit changes
+pub relit-same : (old new : ℕ) → has (bitXor old new) g-lighting ≡ relit f3dex2 old new
+unfolding relit
+relit-same old new =
+    has-lighting (bitXor old new)
+    ∙ ap (λ (n : ℕ). eqb n 1) (ap (λ (n : ℕ). n % 2) (xor-shr old new 17) ∙ xor-mod (old / 2 ^ 17) (new / 2 ^ 17) 1)
+    ∙ differing (old / 2 ^ 17 % 2) (new / 2 ^ 17 % 2) (omega arith) (omega arith)
+
+-- ---- cull bits
+
+-- the two bits picked
+pub cull-bits : (g : ℕ) → bitAnd g g-cull-both ≡ (g / 512 % 4) * 512
+cull-bits g = and-high g 2 9
+
+-- the lower of them is front
+pub cull-front-bit : (g : ℕ) → flag (f3dex2 .front) g ≡ eqb (g / 512 % 4 % 2) 1
+cull-front-bit g = let e : g / 512 % 2 ≡ g / 512 % 4 % 2 = omega arith in ap (λ (n : ℕ). eqb n 1) e
+
+-- the upper is back
+pub cull-back-bit : (g : ℕ) → flag (f3dex2 .back) g ≡ eqb (g / 512 % 4 / 2) 1
+cull-back-bit g = let e : g / 1024 % 2 ≡ g / 512 % 4 / 2 = omega arith in ap (λ (n : ℕ). eqb n 1) e
+
+-- the three tests of two bits
+pub record Culling (q : ℕ) : Type 0 where
+  pub both : eqb (q * 512) g-cull-both ≡ eqb (q % 2) 1 && eqb (q / 2) 1
+  pub front : eqb (q * 512) g-cull-front ≡ eqb (q % 2) 1 && not (eqb (q / 2) 1)
+  pub some : not (eqb (q * 512) 0) ≡ eqb (q % 2) 1 || eqb (q / 2) 1
+
+-- they hold for each of the four
+pub culling : (q : ℕ) → q < 4 → Culling q
+culling zero h = record { both = refl; front = refl; some = refl }
+culling (suc zero) h = record { both = refl; front = refl; some = refl }
+culling (suc (suc zero)) h = record { both = refl; front = refl; some = refl }
+culling (suc (suc (suc zero))) h = record { both = refl; front = refl; some = refl }
+culling (suc (suc (suc (suc q)))) h = absurd (omega arith)
+
+-- both bits are set
+pub cull-both-same : (g : ℕ) → eqb (bitAnd g g-cull-both) g-cull-both ≡ both f3dex2 g
+cull-both-same g =
+    ap (λ (n : ℕ). eqb n g-cull-both) (cull-bits g) ∙ culling (g / 512 % 4) (omega arith) .both
+    ∙ ap₂ (λ (a b : Bool). a && b) (sym (cull-front-bit g)) (sym (cull-back-bit g))
+
+-- only the front bit is set
+pub cull-front-same : (g : ℕ) → eqb (bitAnd g g-cull-both) g-cull-front ≡ swaps f3dex2 g
+cull-front-same g =
+    ap (λ (n : ℕ). eqb n g-cull-front) (cull-bits g) ∙ culling (g / 512 % 4) (omega arith) .front
+    ∙ ap₂ (λ (a b : Bool). a && not b) (sym (cull-front-bit g)) (sym (cull-back-bit g))
+
+-- one bit at least is set
+pub cull-some-same : (g : ℕ) → not (eqb (bitAnd g g-cull-both) 0) ≡ culls f3dex2 g
+cull-some-same g =
+    ap (λ (n : ℕ). not (eqb n 0)) (cull-bits g) ∙ culling (g / 512 % 4) (omega arith) .some
+    ∙ ap₂ (λ (a b : Bool). a || b) (sym (cull-front-bit g)) (sym (cull-back-bit g))
+
+-- ---- products
+
+-- a product of matrices
+pub mul4-same : (a b : List (List Float)) → mul4 a b ≡ times a b
+unfolding mul4 times
+mul4-same a b = refl
+
+-- a row times a matrix
+pub row-same : (v : List Float) (m : List (List Float)) → mul-row-vec4 v m ≡ rowTimes v m
+unfolding mul-row-vec4 rowTimes
+row-same v m = refl
+
+-- a matrix times a column
+pub col-same : (m : List (List Float)) (v : List Float) → mul-col-vec3 m v ≡ colTimes m v
+unfolding mul-col-vec3 colTimes
+col-same m v = refl
+
+-- a direction folded
+pub folded-same : (m : List (List Float)) (v : List Float) → unit-length (mul-col-vec3 m v) ≡ folded m v
+unfolding unit-length mul-col-vec3 folded colTimes
+folded-same m v = refl
+
+-- the identity
+pub identity-same : identity ≡ unit
+identity-same = refl
+
+-- ---- comparisons
+
+-- matrices
+pub mat-same : (a b : List (List Float)) → eq-mat a b ≡ matches eq (laid a) (laid b)
+unfolding eq-mat matches laid
+mat-same a b = simp (and-assoc, and-true)
+
+module _ {A : Type 0} where
+  -- a list of two, by its elements
+  pub two-is : (l : List A) (d : A) → length l ≡ 2 → l ≡ getD l 0 d ∷ getD l 1 d ∷ []
+  two-is [] d h = absurd (omega arith)
+  two-is (x ∷ []) d h = absurd (omega arith)
+  two-is (x ∷ y ∷ []) d h = refl
+  two-is (x ∷ y ∷ z ∷ l) d h = absurd (omega arith)
+
+  -- a list of three, by its elements
+  pub three-is : (l : List A) (d : A) → length l ≡ 3 → l ≡ getD l 0 d ∷ getD l 1 d ∷ getD l 2 d ∷ []
+  three-is [] d h = absurd (omega arith)
+  three-is (x ∷ []) d h = absurd (omega arith)
+  three-is (x ∷ y ∷ []) d h = absurd (omega arith)
+  three-is (x ∷ y ∷ z ∷ []) d h = refl
+  three-is (x ∷ y ∷ z ∷ w ∷ l) d h = absurd (omega arith)
+
+-- entries of the viewport table: scale and translation, three numbers each
+pub entry-same : (s t u v : List Float) → length s ≡ 3 → length t ≡ 3 → length u ≡ 3 → length v ≡ 3 → eq-entry (s, t) (u, v) ≡ matches eq (s ++ t) (u ++ v)
+unfolding matches
+entry-same s t u v hs ht hu hv =
+    rw (three-is s nan hs, three-is t nan ht, three-is u nan hu, three-is v nan hv) (simp (and-assoc, and-true))
+
+-- pairs of numbers
+pub pair-same : (a b : List Float) → length a ≡ 2 → length b ≡ 2 → eq2 a b ≡ matches eq a b
+unfolding matches
+pair-same a b ha hb = rw (two-is a nan ha, two-is b nan hb) (simp and-true)
+
+-- the first pairs of two entries of four numbers, as table 3 has them
+pub scale-same : (a b : List Float) → length a ≡ 4 → length b ≡ 4 → eq2 (take 2 a) (take 2 b) ≡ matches eq (take 2 a) (take 2 b)
+scale-same a b ha hb = pair-same (take 2 a) (take 2 b) (rw (length-take 2 a, ha)) (rw (length-take 2 b, hb))
+
+-- two numbers at least, by the first two
+pub first-pair : (a : List Float) → 2 ≤ length a → take 2 a ≡ ix a 0 ∷ ix a 1 ∷ []
+first-pair [] h = absurd (omega arith)
+first-pair (x ∷ []) h = absurd (omega arith)
+first-pair (x ∷ y ∷ l) h = refl
+
+-- the same, of lists of two numbers at least that are not cut
+pub front-same : (a b : List Float) → 2 ≤ length a → 2 ≤ length b → eq2 a b ≡ matches eq (take 2 a) (take 2 b)
+unfolding matches
+front-same a b ha hb = rw (first-pair a ha, first-pair b hb, and-true)
+
+-- ---- the clip code and the screen z
+
+-- a plane's bit above a code is added
+pub plane-adds : (b : Bool) (k code : ℕ) → code < 2 ^ k → plane b k code ≡ code + bitOf b (2 ^ k)
+plane-adds true k code h = or-shifted-r 1 k code h ∙ rw (one-mul (2 ^ k)) (omega arith)
+plane-adds false k code h = or-shifted-r 0 k code h ∙ rw (zero-mul (2 ^ k)) (omega arith)
+
+-- the same after codes that are equal
+pub next-plane : (b : Bool) (k code sum : ℕ) → code ≡ sum → sum < 2 ^ k → plane b k code ≡ sum + bitOf b (2 ^ k)
+next-plane b k code sum e h = ap (λ (n : ℕ). plane b k n) e ∙ plane-adds b k sum h
+
+-- a bit is at most its weight
+pub bit-le : (b : Bool) (n : ℕ) → bitOf b n ≤ n
+bit-le true n = omega arith
+bit-le false n = omega arith
+
+-- the six planes are a sum
+pub planes-sum : (a b c d e f : Bool) → plane f 5 (plane e 4 (plane d 3 (plane c 2 (plane b 1 (plane a 0 0)))))
+    ≡ bitOf a 1 + bitOf b 2 + bitOf c 4 + bitOf d 8 + bitOf e 16 + bitOf f 32
+planes-sum a b c d e f =
+    let ha : bitOf a 1 ≤ 1 = bit-le a 1 in
+    let hb : bitOf b 2 ≤ 2 = bit-le b 2 in
+    let hc : bitOf c 4 ≤ 4 = bit-le c 4 in
+    let hd : bitOf d 8 ≤ 8 = bit-le d 8 in
+    let he : bitOf e 16 ≤ 16 = bit-le e 16 in
+    let s1 : plane a 0 0 ≡ bitOf a 1 = plane-adds a 0 0 (omega arith) ∙ zero-add (bitOf a 1) in
+    let s2 = next-plane b 1 (plane a 0 0) (bitOf a 1) s1 (omega arith) in
+    let s3 = next-plane c 2 _ (bitOf a 1 + bitOf b 2) s2 (omega arith) in
+    let s4 = next-plane d 3 _ (bitOf a 1 + bitOf b 2 + bitOf c 4) s3 (omega arith) in
+    let s5 = next-plane e 4 _ (bitOf a 1 + bitOf b 2 + bitOf c 4 + bitOf d 8) s4 (omega arith) in
+    next-plane f 5 _ (bitOf a 1 + bitOf b 2 + bitOf c 4 + bitOf d 8 + bitOf e 16) s5 (omega arith)
+
+-- the port's code: a mark and a value
+pub coded : (t : Bool) (n : ℕ) → ClipCode
+coded t n = cond t (record { some = true; bits = n }) (record { some = false; bits = 0 })
+
+-- it says what the Option says
+pub coded-is : (t : Bool) (n : ℕ) → cond {A = Option ℕ} t (some n) none ≡ cond (coded t n .some) (some (coded t n .bits)) none
+unfolding coded
+coded-is true n = refl
+coded-is false n = refl
+
+-- the clip code
+pub code-same : (p : List Float) → clip-code p ≡ cond (codeOf p .some) (some (codeOf p .bits)) none
+unfolding clip-code codeOf bitsOf coded
+code-same p =
+    let x = ix p 0 in
+    let y = ix p 1 in
+    let z = ix p 2 in
+    let w = ix p 3 in
+    let e : finite x && (finite y && (finite z && finite w)) ≡ allFinite p = simp and-assoc in
+    ap₂ (λ (t : Bool) (n : ℕ). cond {A = Option ℕ} t (some n) none) e (planes-sum (lt x (neg w)) (lt w x) (lt y (neg w)) (lt w y) (lt z (neg w)) (lt w z))
+    ∙ coded-is (allFinite p) (bitsOf p)
+
+-- the port's screen z: a mark and a value
+pub depth : (t : Bool) (z : Float) → ScreenZ
+depth t z = cond t (record { some = true; z = z }) (record { some = false; z = f0 })
+
+-- it says what the original's two tests in turn say
+pub depth-is : (e f : Bool) (z : Float) → cond {A = Option Float} e none (cond f (some z) none)
+    ≡ cond (depth (true && not e && f) z .some) (some (depth (true && not e && f) z .z)) none
+unfolding depth
+depth-is true f z = refl
+depth-is false true z = refl
+depth-is false false z = refl
+
+-- the screen z, by whether there is a code
+pub screen-by : (t : Bool) (n : ℕ) (p scale trans : List Float)
+    → screen-of (cond t (some n) none) p scale trans
+    ≡ cond (depthOf p t (ix scale 2) (ix trans 2) .some) (some (depthOf p t (ix scale 2) (ix trans 2) .z)) none
+unfolding screen-of depthOf screenOf ne depth
+screen-by true n p scale trans = depth-is (eq (ix p 3) f0) (finite (screenOf p (ix scale 2) (ix trans 2))) (screenOf p (ix scale 2) (ix trans 2))
+screen-by false n p scale trans = refl
+
+-- the screen z
+pub screen-same : (p scale trans : List Float)
+    → let d = depthOf p (codeOf p .some) (ix scale 2) (ix trans 2) in
+    screen-of (clip-code p) p scale trans ≡ cond (d .some) (some (d .z)) none
+screen-same p scale trans =
+    ap (λ (o : Option ℕ). screen-of o p scale trans) (code-same p) ∙ screen-by (codeOf p .some) (codeOf p .bits) p scale trans
+
+-- ---- pops
+
+-- the depth after pops
+pub popped-same : (count size : ℕ) → 1 ≤ size → popped-size count size ≡ popped count size
+unfolding popped-size popped
+popped-same zero size h = omega arith
+popped-same (suc count) size h = go (popped-same count) (ltb 1 size) refl
+  where
+    go : ((s : ℕ) → 1 ≤ s → popped-size count s ≡ popped count s) → (b : Bool) → ltb 1 size ≡ b → popped-size count (cond b (size - 1) size) ≡ popped (suc count) size
+    go ih true e = let k : 1 < size = ltb-true 1 size e in ih (size - 1) (omega arith) ∙ omega arith
+    go ih false e = let k : size ≤ 1 = ltb-false 1 size e in ih size h ∙ omega arith
+
+-- ---- fog
+
+-- the place of a pair
+pub position-same : (es : List (List ℤ)) (m o : ℤ) → Wide 2 es → position es m o ≡ find es (m ∷ o ∷ [])
+unfolding position find matches
+position-same [] m o h = refl
+position-same (e ∷ es) m o h = rw (two-is e (pos 0) (h .0), and-true, position-same es m o (h .1), add-one)
+
+-- ---- the last of a list
+
+-- an empty list has no last
+pub last-none : {A : Type 0} (same : A → A → Bool) (x : A) → last-is same [] x ≡ false
+unfolding last-is
+last-none same x = refl
+
+-- the last of a list that is not empty
+pub last-final : {A : Type 0} (same : A → A → Bool) (l : List A) (x d : A) → 0 < length l → last-is same l x ≡ same (getD l (length l - 1) d) x
+unfolding last-is
+last-final same [] x d h = absurd (omega arith)
+last-final same (y ∷ []) x d h = refl
+last-final same (y ∷ z ∷ l) x d h =
+    let e : suc (length l) - 1 ≡ length l = omega arith in
+    let f : suc (suc (length l)) - 1 ≡ suc (length l) = omega arith in
+    last-final same (z ∷ l) x d (omega arith)
+    ∙ ap (λ (n : ℕ). same (getD (z ∷ l) n d) x) e
+    ∙ sym (ap (λ (n : ℕ). same (getD (y ∷ z ∷ l) n d) x) f)
+
+-- the last of the texture scales: the original keeps the pairs in two tables, the port in one
+pub scales-same : (es : List (List Float)) (e : List Float) → Wide 4 es → length e ≡ 4 → last-is eq2 (map (take 2) es) (take 2 e) ≡ sameScale es e
+unfolding sameScale
+scales-same [] e h k = last-none eq2 (take 2 e)
+scales-same (x ∷ es) e h k =
+    let n : 0 < suc (length es) = omega arith in
+    last-final eq2 (map (take 2) (x ∷ es)) (take 2 e) [] (omega arith)
+    ∙ rw (length-map es (take 2), List·getD-map (take 2) (x ∷ es) (suc (length es) - 1) [], lt-ltb 0 (suc (length es)) n)
+    (scale-same (getD (x ∷ es) (suc (length es) - 1) []) e (wide-at 4 (x ∷ es) (suc (length es) - 1) h (omega arith)) k)
+
+-- ---- lights
+
+-- the entries of the first n lights
+pub lights-same : (mv : List (List Float)) (lights : List (List Float × List Float)) (n : ℕ) (ds cs : List Float)
+    → ((k : ℕ) → k < n → (getD lights k ([], []) .0 ≡ three ds (3 * k)) × (getD lights k ([], []) .1 ≡ three cs (3 * k)))
+    → map (λ (e : List Float × List Float). e .0 ++ e .1) (fold-lights mv lights n) ≡ directional mv ds cs n
+unfolding fold-lights directional lightEntry
+lights-same mv lights zero ds cs h = refl
+lights-same mv lights (suc n) ds cs h =
+    let join : List Float × List Float → List Float = λ e. e .0 ++ e .1 in
+    let light : List Float × List Float = (unit-length (mul-col-vec3 mv (getD lights n ([], []) .0)), getD lights n ([], []) .1) in
+    let e : (getD lights n ([], []) .0 ≡ three ds (3 * n)) × (getD lights n ([], []) .1 ≡ three cs (3 * n)) = h n (omega arith) in
+    let last : join light ≡ folded mv (three ds (3 * n)) ++ three cs (3 * n) =
+    ap₂ (λ (a b : List Float). unit-length (mul-col-vec3 mv a) ++ b) (e .0) (e .1)
+    ∙ ap (λ (a : List Float). a ++ three cs (3 * n)) (folded-same mv (three ds (3 * n))) in
+    map-append join (fold-lights mv lights n) (light ∷ [])
+    ∙ ap₂ (λ (a : List (List Float)) (b : List Float). a ++ b ∷ []) (lights-same mv lights n ds cs (λ k l. h k (omega arith))) last
+
+-- the entry of the lookat axes
+pub lookat-same : (mv axes : List (List Float)) (l : List Float) → getD axes 0 [] ≡ three l 0 → getD axes 1 [] ≡ three l 3
+    → unit-length (mul-col-vec3 mv (getD axes 0 [])) ++ unit-length (mul-col-vec3 mv (getD axes 1 [])) ≡ lookatEntry mv l
+unfolding lookatEntry
+lookat-same mv axes l p q = rw (p, q, folded-same mv (three l 0), folded-same mv (three l 3))

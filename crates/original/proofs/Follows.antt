@@ -1,0 +1,98 @@
+-- Every command of the domain, and a list of them: the two sides agree. Assumes nothing.
+use mathlib.Core.Path.{_≡_, refl, sym, ap, ap₂, _∙_, subst}
+use Prim.Native.Nat.{ℕ}
+use mathlib.Core.List.{List, [], _∷_}
+use Rattle.decide.specs.Stack.{geometryAfter, relit}
+use Rattle.decide.specs.Family.{f3dex2}
+use Rattle.stage.specs.declared.State.{State}
+use Rattle.stage.specs.Plan.{Plan, refuse, does, Edits}
+use Rattle.sequence.specs.Sequence.{Command, matrix, force, pop, viewport, geometry, texture, fog, number, light, lookat, microcode, load, cull, depth, modify, draw, ink, Book}
+use Rattle.sequence.proofs.Turn.{enter, turn, course}
+use Rattle.sequence.proofs.Accepts.{Accepted}
+use Rattle.original.specs.Drawing.{Result, Ok, Err}
+use Rattle.original.specs.Walk.{World, Went, execute}
+use Rattle.original.specs.Relation.{Offsets, Same}
+use Rattle.original.specs.Domain.{Within, Agrees, IsDone, tells, stage, AllDone, told, AllWithin, Walked, walk}
+use Rattle.original.proofs.Settings.{texture-agrees, fog-agrees, number-agrees, light-agrees, lookat-agrees, geometry-agrees, microcode-agrees}
+use Rattle.original.proofs.Combined.{matrix-agrees, force-agrees, pop-agrees}
+use Rattle.original.proofs.Views.{viewport-agrees}
+use Rattle.original.proofs.Tests.{cull-agrees, depth-agrees}
+use Rattle.original.proofs.Draws.{draw-agrees}
+use Rattle.original.proofs.Modifies.{modify-agrees}
+use Rattle.original.proofs.Loads.{load-agrees}
+
+-- what is owed of a command: the relation S before, the relation T after it
+abbrev pub Owed : (Book → World → Type 0) → Command → Book → World → Type 0
+Owed T c k w = Accepted (λ vs t e. Agrees T vs (enter t e k) (execute c w)) (stage c k)
+
+-- EVERY ACCEPTED COMMAND OF THE DOMAIN: the original is done too, tells the same, and leaves the same
+pub agrees : (o : Offsets) (k : Book) (w : World) → Same o k w → (c : Command) → Within c → Owed (Same o) c k w
+agrees o k w N (matrix flags bytes at) h = matrix-agrees N flags bytes at h
+agrees o k w N (force bytes at) h = force-agrees N bytes at h
+agrees o k w N (pop count) h = pop-agrees N (λ a b e. e) count
+agrees o k w N (viewport bytes at) h = viewport-agrees N bytes at h
+agrees o k w N (geometry off on) h =
+    geometry-agrees N _≡_ off on (ap (geometryAfter off on) (N .geometry)) (ap (λ (g : ℕ). relit f3dex2 g (geometryAfter off on g)) (sym (N .geometry)))
+agrees o k w N (texture tile level on sc tc) h = texture-agrees N tile level on sc tc h
+agrees o k w N (fog multiplier offset) h = fog-agrees N multiplier offset
+agrees o k w N (number bytes) h = number-agrees N bytes
+agrees o k w N (light slot bytes at) h = light-agrees N slot bytes at h
+agrees o k w N (lookat slot bytes at) h = lookat-agrees N slot bytes at h
+agrees o k w N (microcode to) h = microcode-agrees N to
+agrees o k w N (load first count bytes at) h = load-agrees N first count bytes at h
+agrees o k w N (cull first last) h = cull-agrees N first last
+agrees o k w N (depth slot threshold) h = depth-agrees N slot threshold h
+agrees o k w N (modify slot attribute value) h = modify-agrees N slot attribute value h
+agrees o k w N (draw a b c material mode colour prim) h = draw-agrees N a b c material mode colour prim
+agrees o k w N (ink colour) h = absurd h
+
+-- ---- one command
+
+pub record Stepped (T : Book → World → Type 0) (c : Command) (k : Book) (w : World) : Type 0 where
+  pub went : Went
+  pub is : execute c w ≡ Ok went
+  pub values : tells (stage c k) ≡ went .values
+  pub after : T (turn (stage c k) k) (went .world)
+
+pub stepped : (T : Book → World → Type 0) (c : Command) (k : Book) (w : World) → Owed T c k w → IsDone (stage c k) → Stepped T c k w
+unfolding turn Accepted
+stepped T c k w o d = go (stage c k) refl o d (execute c w) refl
+  where
+    found : (vs : List ℕ) (t : State) (e : Edits) → stage c k ≡ does vs t e → Agrees T vs (enter t e k) (execute c w) → (r : Result Went) → execute c w ≡ r → Stepped T c k w
+    found vs t e q a (Ok g) x =
+        let b : Agrees T vs (enter t e k) (Ok g) = subst (Agrees T vs (enter t e k)) x a in
+        record { went = g; is = x; values = ap tells q ∙ b .0; after = subst (λ (p : Plan). T (turn p k) (g .world)) (sym q) (b .1) }
+    found vs t e q a (Err z) x = absurd (subst (Agrees T vs (enter t e k)) x a)
+
+    go : (p : Plan) → stage c k ≡ p → Accepted (λ vs t e. Agrees T vs (enter t e k) (execute c w)) p → IsDone p → (r : Result Went) → execute c w ≡ r → Stepped T c k w
+    go (refuse n vs) q a i r x = absurd i
+    go (does vs t e) q a i r x = found vs t e q a r x
+
+-- ---- a list of them
+
+pub record Follows (T : Book → World → Type 0) (cs : List Command) (k : Book) (w : World) : Type 0 where
+  pub walked : Walked
+  pub is : walk cs w ≡ Ok walked
+  pub values : told cs k ≡ walked .values
+  pub after : T (course stage cs k) (walked .world)
+
+pub follows-none : (T : Book → World → Type 0) (k : Book) (w : World) → T k w → Follows T [] k w
+unfolding walk course
+follows-none T k w h = record { walked = record { values = []; world = w }; is = refl; values = refl; after = h }
+
+pub follows-more : (T S : Book → World → Type 0) (c : Command) (cs : List Command) (k : Book) (w : World) → Stepped S c k w → ((v : World) → S (turn (stage c k) k) v → Follows T cs (turn (stage c k) k) v) → Follows T (c ∷ cs) k w
+unfolding walk course
+follows-more T S c cs k w s f =
+    let r = f (s .went .world) (s .after) in
+    record {
+      walked = record { values = s .went .values ∷ r .walked .values; world = r .walked .world };
+      is = rw (s .is, r .is);
+      values = ap₂ (λ (a : List ℕ) (b : List (List ℕ)). a ∷ b) (s .values) (r .values);
+      after = r .after;
+    }
+
+-- EVERY LIST OF ACCEPTED COMMANDS OF THE DOMAIN
+pub follows : (o : Offsets) (cs : List Command) (k : Book) (w : World) → Same o k w → AllWithin cs → AllDone cs k → Follows (Same o) cs k w
+follows o [] k w N h d = follows-none (Same o) k w N
+follows o (c ∷ cs) k w N h d =
+    follows-more (Same o) (Same o) c cs k w (stepped (Same o) c k w (agrees o k w N c (h .0)) (d .0)) (λ v M. follows o cs (turn (stage c k) k) v M (h .1) (d .1))

@@ -1,0 +1,183 @@
+-- Document 01's domain, and what it is that the two sides agree on a command. Definitions only.
+use Prim.Native.Nat.{ℕ, _≤_, _<_}
+use mathlib.Core.Path.{_≡_}
+use mathlib.Core.List.{List, [], _∷_, _++_}
+use mathlib.Core.Bool.{Bool}
+use lib.ListN.{length, getD}
+use lib.IntN.{ℤ}
+use Rattle.areas.specs.Area.{room}
+use Rattle.decide.specs.Family.{f3dex2}
+use Rattle.stage.specs.Plan.{Plan, refuse, does}
+use Rattle.sequence.specs.Sequence.{Command, matrix, force, pop, viewport, geometry, texture, fog, number, light, lookat, microcode, load, cull, depth, modify, draw, ink, Areas, Book, book, plan, run, opening}
+use Rattle.original.specs.Drawing.{DiagKind, InvalidCullRange, InvalidConditionalVertex, InvalidVertexTransform, InvalidModifyVertex, Result, Ok, Err}
+use Rattle.sequence.proofs.Turn.{turn}
+use Rattle.original.specs.Walk.{World, Went, start, execute}
+use Rattle.original.specs.Relation.{Offsets, Same, CornersSame}
+
+-- data is bytes, at most 16 MiB of them: beyond that the original's addresses begin again
+pub record Data (b : List ℕ) : Type 0 where
+  pub bytes : (i : ℕ) → getD b i 0 < 256
+  pub short : length b ≤ 16777216
+
+-- a command of the original with arguments of its types; ink count is not one of its commands
+abbrev pub Within : Command → Type 0
+Within (matrix flags bytes at) = Data bytes
+Within (force bytes at) = Data bytes
+Within (pop count) = Unit {0}
+Within (viewport bytes at) = Data bytes
+Within (geometry off on) = Unit {0}
+Within (texture tile level on sc tc) = (sc < 65536) × (tc < 65536)
+Within (fog multiplier offset) = Unit {0}
+Within (number bytes) = Unit {0}
+Within (light slot bytes at) = Data bytes
+Within (lookat slot bytes at) = Data bytes
+Within (microcode to) = Unit {0}
+Within (load first count bytes at) = Data bytes
+Within (cull first last) = Unit {0}
+Within (depth slot threshold) = threshold < 4294967296
+Within (modify slot attribute value) = value < 4294967296
+Within (draw a b c material mode colour prim) = Unit {0}
+Within (ink colour) = ⊥
+
+-- the original is done, tells the same values, and what it leaves is in the relation S to the book k
+abbrev pub Agrees : (Book → World → Type 0) → List ℕ → Book → Result Went → Type 0
+Agrees S vs k (Ok g) = (vs ≡ g .values) × S k (g .world)
+Agrees S vs k (Err d) = ⊥
+
+-- ---- lists of commands
+
+-- a plan that is accepted, and what it tells
+abbrev pub IsDone : Plan → Type 0
+IsDone (refuse n vs) = ⊥
+IsDone (does vs t e) = Unit {0}
+
+abbrev pub tells : Plan → List ℕ
+tells (refuse n vs) = vs
+tells (does vs t e) = vs
+
+-- the stage, F3DEX2's flags and 256 slots
+abbrev pub stage : Command → Book → Plan
+stage c k = plan f3dex2 256 c k
+
+-- the stage accepts each command, one after the other
+abbrev pub AllDone : List Command → Book → Type 0
+AllDone [] k = Unit {0}
+AllDone (c ∷ cs) k = IsDone (stage c k) × AllDone cs (turn (stage c k) k)
+
+-- what each tells
+abbrev pub told : List Command → Book → List (List ℕ)
+told [] k = []
+told (c ∷ cs) k = tells (stage c k) ∷ told cs (turn (stage c k) k)
+
+-- each is within the domain
+abbrev pub AllWithin : List Command → Type 0
+AllWithin [] = Unit {0}
+AllWithin (c ∷ cs) = Within c × AllWithin cs
+
+-- the original executes a list of commands, and stops at the first that it refuses
+pub record Walked : Type 0 where
+  pub values : List (List ℕ)
+  pub world : World
+
+abbrev pub and-then : Result Went → (Went → Result Walked) → Result Walked
+and-then (Err d) f = Err d
+and-then (Ok g) f = f g
+
+abbrev pub behind : List ℕ → Result Walked → Result Walked
+behind vs (Err d) = Err d
+behind vs (Ok r) = Ok (record { values = vs ∷ r .values; world = r .world })
+
+unfoldable pub walk : List Command → World → Result Walked
+walk [] w = Ok (record { values = []; world = w })
+walk (c ∷ cs) w = and-then (execute c w) (λ (g : Went). behind (g .values) (walk cs (g .world)))
+
+-- ---- the prologue
+
+-- data, and the place from which it is read
+pub record Bytes : Type 0 where
+  pub bytes : List ℕ
+  pub at : ℕ
+
+-- its arguments: eight lights of which the last is the ambient colour, two lookat axes, and a slot with its vertex
+pub record Prologue : Type 0 where
+  pub modelview : Bytes
+  pub projection : Bytes
+  pub viewport : Bytes
+  pub geometry : ℕ
+  pub tile : ℕ
+  pub level : ℕ
+  pub on : Bool
+  pub sc : ℕ
+  pub tc : ℕ
+  pub multiplier : ℤ
+  pub offset : ℤ
+  pub light : ℕ → Bytes
+  pub lookat : ℕ → Bytes
+  pub slot : ℕ
+  pub vertex : Bytes
+
+-- pop 32; modelview and projection loaded; viewport; geometry mode with off 0; texture; fog; 7 lights; slots 0 to 7; both lookat slots; one vertex
+abbrev pub prologue : Prologue → List Command
+prologue p =
+    pop 32
+    ∷ matrix 2 (p .modelview .bytes) (p .modelview .at)
+    ∷ matrix 6 (p .projection .bytes) (p .projection .at)
+    ∷ viewport (p .viewport .bytes) (p .viewport .at)
+    ∷ geometry 0 (p .geometry)
+    ∷ texture (p .tile) (p .level) (p .on) (p .sc) (p .tc)
+    ∷ fog (p .multiplier) (p .offset)
+    ∷ number 168
+    ∷ light 0 (p .light 0 .bytes) (p .light 0 .at)
+    ∷ light 1 (p .light 1 .bytes) (p .light 1 .at)
+    ∷ light 2 (p .light 2 .bytes) (p .light 2 .at)
+    ∷ light 3 (p .light 3 .bytes) (p .light 3 .at)
+    ∷ light 4 (p .light 4 .bytes) (p .light 4 .at)
+    ∷ light 5 (p .light 5 .bytes) (p .light 5 .at)
+    ∷ light 6 (p .light 6 .bytes) (p .light 6 .at)
+    ∷ light 7 (p .light 7 .bytes) (p .light 7 .at)
+    ∷ lookat 0 (p .lookat 0 .bytes) (p .lookat 0 .at)
+    ∷ lookat 1 (p .lookat 1 .bytes) (p .lookat 1 .at)
+    ∷ load (p .slot) 1 (p .vertex .bytes) (p .vertex .at)
+    ∷ []
+
+-- ---- demand 2
+
+-- the two sides are the same, from some point of tables 2 and 3 on
+pub record Met (k : Book) (w : World) : Type 0 where
+  pub offsets : Offsets
+  pub same : Same offsets k w
+
+-- the original has done the same commands, told the same, and left the same
+pub record Equals (cs : List Command) (k k′ : Book) (w : World) : Type 0 where
+  pub walked : Walked
+  pub is : walk cs w ≡ Ok walked
+  pub values : told cs k ≡ walked .values
+  pub after : Met k′ (walked .world)
+  pub corners : CornersSame k′ (walked .world)
+
+-- DEMAND 2: opened on any areas, after the prologue with any arguments, for every list of commands of the domain that the stage accepts
+abbrev pub Demand2 : Type 0
+Demand2 =
+    (l : Areas) → 1 ≤ room 16 (length (l .matrices)) → 1 ≤ room 6 (length (l .viewports)) → (p : Prologue) (cs : List Command)
+    → AllWithin (prologue p ++ cs) → AllDone (prologue p ++ cs) (book (opening l))
+    → Equals (prologue p ++ cs) (book (opening l)) (book (run stage (prologue p ++ cs) (opening l))) start
+
+-- ---- refusals that are the original's too
+
+-- document 01's number and values for what the original answers
+abbrev pub diagNumber : DiagKind → ℕ
+diagNumber (InvalidCullRange first last) = 2
+diagNumber (InvalidConditionalVertex index) = 3
+diagNumber (InvalidVertexTransform index) = 4
+diagNumber (InvalidModifyVertex index attribute) = 5
+
+abbrev pub diagValues : DiagKind → List ℕ
+diagValues (InvalidCullRange first last) = first ∷ last ∷ []
+diagValues (InvalidConditionalVertex index) = index ∷ []
+diagValues (InvalidVertexTransform index) = index ∷ []
+diagValues (InvalidModifyVertex index attribute) = index ∷ attribute ∷ []
+
+-- the original refuses with the same number and the same values
+abbrev pub Beside : ℕ → List ℕ → Result Went → Type 0
+Beside n vs (Ok g) = ⊥
+Beside n vs (Err d) = (diagNumber d ≡ n) × (diagValues d ≡ vs)
