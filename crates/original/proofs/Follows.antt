@@ -5,14 +5,15 @@ use mathlib.Core.List.{List, [], _∷_}
 use Rattle.decide.specs.Stack.{geometryAfter, relit}
 use Rattle.decide.specs.Family.{f3dex2}
 use Rattle.stage.specs.declared.State.{State}
-use Rattle.stage.specs.Plan.{Plan, refuse, does, Edits}
-use Rattle.sequence.specs.Sequence.{Command, matrix, force, pop, viewport, geometry, texture, fog, number, light, lookat, microcode, load, cull, depth, modify, draw, ink, Book}
+use Rattle.stage.specs.Plan.{Plan, refuse, does, Edits, settle}
+use Rattle.sequence.specs.Sequence.{Command, matrix, force, pop, viewport, geometry, texture, fog, number, light, lookat, microcode, load, cull, depth, modify, draw, ink, Port, Book, book, afterAll, result, step}
 use Rattle.sequence.proofs.Turn.{enter, turn, course}
+use Rattle.sequence.proofs.Held.{Fits, step-book}
 use Rattle.sequence.proofs.Accepts.{Accepted}
 use Rattle.original.specs.Drawing.{Result, Ok, Err}
 use Rattle.original.specs.Walk.{World, Went, execute}
 use Rattle.original.specs.Relation.{Offsets, Same}
-use Rattle.original.specs.Domain.{Within, Agrees, IsDone, tells, stage, AllDone, told, AllWithin, Walked, walk}
+use Rattle.original.specs.Domain.{Within, Agrees, IsDone, stage, AllDone, told, AllWithin, Walked, walk}
 use Rattle.original.proofs.Settings.{texture-agrees, fog-agrees, number-agrees, light-agrees, lookat-agrees, geometry-agrees, microcode-agrees}
 use Rattle.original.proofs.Combined.{matrix-agrees, force-agrees, pop-agrees}
 use Rattle.original.proofs.Views.{viewport-agrees}
@@ -46,6 +47,45 @@ agrees o k w N (modify slot attribute value) h = modify-agrees N slot attribute 
 agrees o k w N (draw a b c material mode colour prim) h = draw-agrees N a b c material mode colour prim
 agrees o k w N (ink colour) h = absurd h
 
+-- ---- the premises, said of books
+
+-- what a plan tells
+abbrev pub tells : Plan → List ℕ
+tells (refuse n vs) = vs
+tells (does vs t e) = vs
+
+-- each command is accepted, from the book k on
+abbrev pub DoneFrom : List Command → Book → Type 0
+DoneFrom [] k = Unit {0}
+DoneFrom (c ∷ cs) k = IsDone (stage c k) × DoneFrom cs (turn (stage c k) k)
+
+-- what each tells
+abbrev pub tellings : List Command → Book → List (List ℕ)
+tellings [] k = []
+tellings (c ∷ cs) k = tells (stage c k) ∷ tellings cs (turn (stage c k) k)
+
+-- the answer's values are what the plan tells
+answer-tells : (c : Command) (p : Port) → result stage c p .values ≡ tells (stage c (book p))
+unfolding result settle
+answer-tells c p = of (stage c (book p))
+  where
+    of : (q : Plan) → settle afterAll q (p .state) (p .areas) .values ≡ tells q
+    of (refuse n vs) = refl
+    of (does vs t e) = refl
+
+-- what the port says of a list of commands, its book says
+pub on-books : (cs : List Command) (p : Port) → Fits p → AllDone cs p → DoneFrom cs (book p) × (told cs p ≡ tellings cs (book p))
+on-books [] p h d = (tt, refl)
+on-books (c ∷ cs) p h d =
+    let s = step-book f3dex2 256 c p h in
+    let r = on-books cs (step stage c p) (s .0) (d .1) in
+    ((d .0, subst (DoneFrom cs) (s .2) (r .0)), ap₂ (λ (a : List ℕ) (b : List (List ℕ)). a ∷ b) (answer-tells c p) (r .1 ∙ ap (tellings cs) (s .2)))
+
+-- and the other way round
+pub on-port : (cs : List Command) (p : Port) → Fits p → DoneFrom cs (book p) → AllDone cs p
+on-port [] p h d = tt
+on-port (c ∷ cs) p h d = let s = step-book f3dex2 256 c p h in (d .0, on-port cs (step stage c p) (s .0) (subst (DoneFrom cs) (sym (s .2)) (d .1)))
+
 -- ---- one command
 
 pub record Stepped (T : Book → World → Type 0) (c : Command) (k : Book) (w : World) : Type 0 where
@@ -73,7 +113,7 @@ stepped T c k w o d = go (stage c k) refl o d (execute c w) refl
 pub record Follows (T : Book → World → Type 0) (cs : List Command) (k : Book) (w : World) : Type 0 where
   pub walked : Walked
   pub is : walk cs w ≡ Ok walked
-  pub values : told cs k ≡ walked .values
+  pub values : tellings cs k ≡ walked .values
   pub after : T (course stage cs k) (walked .world)
 
 pub follows-none : (T : Book → World → Type 0) (k : Book) (w : World) → T k w → Follows T [] k w
@@ -92,7 +132,7 @@ follows-more T S c cs k w s f =
     }
 
 -- EVERY LIST OF ACCEPTED COMMANDS OF THE DOMAIN
-pub follows : (o : Offsets) (cs : List Command) (k : Book) (w : World) → Same o k w → AllWithin cs → AllDone cs k → Follows (Same o) cs k w
+pub follows : (o : Offsets) (cs : List Command) (k : Book) (w : World) → Same o k w → AllWithin cs → DoneFrom cs k → Follows (Same o) cs k w
 follows o [] k w N h d = follows-none (Same o) k w N
 follows o (c ∷ cs) k w N h d =
     follows-more (Same o) (Same o) c cs k w (stepped (Same o) c k w (agrees o k w N c (h .0)) (d .0)) (λ v M. follows o cs (turn (stage c k) k) v M (h .1) (d .1))

@@ -17,6 +17,8 @@ pub mod Loads
 pub mod Follows
 pub mod Starts
 pub mod Prologues
+pub mod Among
+pub mod Inhabited
 pub mod Refusals
 pub mod Dump
 pub mod Traced

@@ -12,13 +12,13 @@ use Rattle.sequence.proofs.Held.{run-book}
 use Rattle.sequence.proofs.Opened.{opened-book, open-book}
 use Rattle.original.specs.Walk.{World, start}
 use Rattle.original.specs.Relation.{Offsets, ViewSame, Near, Same}
-use Rattle.original.specs.Domain.{AllWithin, AllDone, Prologue, prologue, stage, told, Met, Demand2}
+use Rattle.original.specs.Domain.{AllWithin, Prologue, prologue, stage, Met, Demand2}
 use Rattle.original.specs.Drawing.{texcoords-then}
 use Rattle.original.proofs.Corners.{met-corners}
 use Rattle.original.proofs.Settings.{texture-agrees, fog-agrees, number-agrees, light-agrees, lookat-agrees, geometry-agrees}
 use Rattle.original.proofs.Combined.{matrix-agrees, pop-agrees}
 use Rattle.original.proofs.Loads.{Scaled, load-scaled}
-use Rattle.original.proofs.Follows.{Stepped, stepped, Follows, follows-more, follows}
+use Rattle.original.proofs.Follows.{DoneFrom, tellings, on-books, Stepped, stepped, Follows, follows-more, follows}
 use Rattle.original.proofs.Starts.{Any, Geometry0, View0, Scale0, Rows0, start-near, port-before, rust-before, viewport-begins, geometry-begins, scale-before, scales-begun, rows-begun}
 
 -- once viewport, geometry mode and matrices are set
@@ -30,7 +30,7 @@ met : (o : Offsets) (cs : List Command) (k : Book) (w : World) → Follows (Same
 met o cs k w f = record { walked = f .walked; is = f .is; values = f .values; after = record { offsets = o; same = f .after } }
 
 -- the vertex, and what comes after the prologue
-load-met : (a b : ℕ) (slot : ℕ) (bytes : List ℕ) (at : ℕ) (cs : List Command) (k : Book) (w : World) → Set a b k w → AllWithin (load slot 1 bytes at ∷ cs) → AllDone (load slot 1 bytes at ∷ cs) k → Follows Met (load slot 1 bytes at ∷ cs) k w
+load-met : (a b : ℕ) (slot : ℕ) (bytes : List ℕ) (at : ℕ) (cs : List Command) (k : Book) (w : World) → Set a b k w → AllWithin (load slot 1 bytes at ∷ cs) → DoneFrom (load slot 1 bytes at ∷ cs) k → Follows Met (load slot 1 bytes at ∷ cs) k w
 load-met a b slot bytes at cs k w N h d =
     let s = w .rsp .texture-state in
     let o : Offsets = record { port2 = a; rust2 = b; port3 = 0; rust3 = scale-before (w .rsp .texture-state) } in
@@ -48,12 +48,12 @@ module _ (a b : ℕ) (p : Prologue) (rest : List Command) where
 
   -- a setting that keeps what is said, and then the rest
   then : (c : Command) (cs : List Command) (k : Book) (w : World) → Stepped (Set a b) c k w
-      → ((k : Book) (w : World) → Set a b k w → AllWithin cs → AllDone cs k → Follows Met cs k w) → AllWithin cs → AllDone cs (turn (stage c k) k) → Follows Met (c ∷ cs) k w
+      → ((k : Book) (w : World) → Set a b k w → AllWithin cs → DoneFrom cs k → Follows Met cs k w) → AllWithin cs → DoneFrom cs (turn (stage c k) k) → Follows Met (c ∷ cs) k w
   then c cs k w s f h d = follows-more Met (Set a b) c cs k w s (λ v M. f (turn (stage c k) k) v M h d)
 
   -- what is owed of the commands cs, once all but vertex and scales are set
   abbrev Rest : List Command → Type 0
-  Rest cs = (k : Book) (w : World) → Set a b k w → AllWithin cs → AllDone cs k → Follows Met cs k w
+  Rest cs = (k : Book) (w : World) → Set a b k w → AllWithin cs → DoneFrom cs k → Follows Met cs k w
 
   rest-vertex : Rest vertex
   rest-vertex k w N h d = load-met a b (p .slot) (p .vertex .bytes) (p .vertex .at) rest k w N h d
@@ -110,7 +110,7 @@ Turned = Near _≡_ Geometry0 View0 Scale0 Rows0
 from-viewport : (p : Prologue) (rest : List Command) (k : Book) (w : World) → Turned k w
     → let cs = viewport (p .viewport .bytes) (p .viewport .at) ∷ geometry 0 (p .geometry) ∷ settings 0 0 p rest in
     AllWithin cs
-    → AllDone cs k → Follows Met cs k w
+    → DoneFrom cs k → Follows Met cs k w
 from-viewport p rest k w N h d =
     let a : ℕ = port-before (p .viewport .bytes) (p .viewport .at) in
     let b : ℕ = rust-before (p .viewport .bytes) (p .viewport .at) in
@@ -124,7 +124,7 @@ from-viewport p rest k w N h d =
     (λ u T. rest-settings a b p rest (turn (stage (geometry 0 (p .geometry)) k₁) k₁) u T (h .1 .1) (d .1 .1)))
 
 -- FROM THE START, THROUGH THE PROLOGUE, FOR EVERY LIST OF COMMANDS AFTER IT
-pub begins : (l : Areas) (p : Prologue) (cs : List Command) → AllWithin (prologue p ++ cs) → AllDone (prologue p ++ cs) (opened-book l) → Follows Met (prologue p ++ cs) (opened-book l) start
+pub begins : (l : Areas) (p : Prologue) (cs : List Command) → AllWithin (prologue p ++ cs) → DoneFrom (prologue p ++ cs) (opened-book l) → Follows Met (prologue p ++ cs) (opened-book l) start
 begins l p cs h d =
     follows-more Met (Near Any Geometry0 View0 Scale0 Rows0) (pop 32) _ (opened-book l) start
     (stepped _ (pop 32) (opened-book l) start (pop-agrees (start-near l) (λ _ _ _. tt) 32) (d .0))
@@ -138,14 +138,15 @@ begins l p cs h d =
 
 -- DEMAND 2
 pub equals-original : Demand2
-equals-original l hm hv p cs h d =
-    let b = open-book l hm hv in
-    let f = begins l p cs h (subst (AllDone (prologue p ++ cs)) (b .1) d) in
+equals-original l o p cs h d =
+    let b = open-book l (o .0) (o .1) in
+    let k = on-books (prologue p ++ cs) (opening l) (b .0) d in
+    let f = begins l p cs h (subst (DoneFrom (prologue p ++ cs)) (b .1) (k .0)) in
     let m = subst (λ (k : Book). Met k (f .walked .world)) (sym (run-book f3dex2 256 (prologue p ++ cs) (opening l) (b .0) .1 ∙ ap (course stage (prologue p ++ cs)) (b .1))) (f .after) in
     record {
       walked = f .walked;
       is = f .is;
-      values = ap (told (prologue p ++ cs)) (b .1) ∙ f .values;
+      values = k .1 ∙ ap (tellings (prologue p ++ cs)) (b .1) ∙ f .values;
       after = m;
       corners = met-corners m;
     }

@@ -1,5 +1,5 @@
 -- Document 01's domain, and what it is that the two sides agree on a command. Definitions only.
-use Prim.Native.Nat.{ℕ, _≤_, _<_}
+use Prim.Native.Nat.{ℕ, _*_, _≤_, _<_}
 use mathlib.Core.Path.{_≡_}
 use mathlib.Core.List.{List, [], _∷_, _++_}
 use mathlib.Core.Bool.{Bool}
@@ -8,9 +8,8 @@ use lib.IntN.{ℤ}
 use Rattle.areas.specs.Area.{room}
 use Rattle.decide.specs.Family.{f3dex2}
 use Rattle.stage.specs.Plan.{Plan, refuse, does}
-use Rattle.sequence.specs.Sequence.{Command, matrix, force, pop, viewport, geometry, texture, fog, number, light, lookat, microcode, load, cull, depth, modify, draw, ink, Areas, Book, book, plan, run, opening}
+use Rattle.sequence.specs.Sequence.{Command, matrix, force, pop, viewport, geometry, texture, fog, number, light, lookat, microcode, load, cull, depth, modify, draw, ink, Areas, Port, Book, book, plan, result, step, run, accepted, opening}
 use Rattle.original.specs.Drawing.{DiagKind, InvalidCullRange, InvalidConditionalVertex, InvalidVertexTransform, InvalidModifyVertex, Result, Ok, Err}
-use Rattle.sequence.proofs.Turn.{turn}
 use Rattle.original.specs.Walk.{World, Went, start, execute}
 use Rattle.original.specs.Relation.{Offsets, Same, CornersSame}
 
@@ -46,28 +45,24 @@ Agrees S vs k (Err d) = ⊥
 
 -- ---- lists of commands
 
--- a plan that is accepted, and what it tells
+-- a plan that is accepted
 abbrev pub IsDone : Plan → Type 0
 IsDone (refuse n vs) = ⊥
 IsDone (does vs t e) = Unit {0}
-
-abbrev pub tells : Plan → List ℕ
-tells (refuse n vs) = vs
-tells (does vs t e) = vs
 
 -- the stage, F3DEX2's flags and 256 slots
 abbrev pub stage : Command → Book → Plan
 stage c k = plan f3dex2 256 c k
 
 -- the stage accepts each command, one after the other
-abbrev pub AllDone : List Command → Book → Type 0
-AllDone [] k = Unit {0}
-AllDone (c ∷ cs) k = IsDone (stage c k) × AllDone cs (turn (stage c k) k)
+abbrev pub AllDone : List Command → Port → Type 0
+AllDone [] p = Unit {0}
+AllDone (c ∷ cs) p = IsDone (stage c (book p)) × AllDone cs (step stage c p)
 
--- what each tells
-abbrev pub told : List Command → Book → List (List ℕ)
-told [] k = []
-told (c ∷ cs) k = tells (stage c k) ∷ told cs (turn (stage c k) k)
+-- the values of each answer
+abbrev pub told : List Command → Port → List (List ℕ)
+told [] p = []
+told (c ∷ cs) p = result stage c p .values ∷ told cs (step stage c p)
 
 -- each is within the domain
 abbrev pub AllWithin : List Command → Type 0
@@ -148,19 +143,37 @@ pub record Met (k : Book) (w : World) : Type 0 where
   pub same : Same offsets k w
 
 -- the original has done the same commands, told the same, and left the same
-pub record Equals (cs : List Command) (k k′ : Book) (w : World) : Type 0 where
+pub record Equals (cs : List Command) (p : Port) (w : World) : Type 0 where
   pub walked : Walked
   pub is : walk cs w ≡ Ok walked
-  pub values : told cs k ≡ walked .values
-  pub after : Met k′ (walked .world)
-  pub corners : CornersSame k′ (walked .world)
+  pub values : told cs p ≡ walked .values
+  pub after : Met (book (run stage cs p)) (walked .world)
+  pub corners : CornersSame (book (run stage cs p)) (walked .world)
+
+-- areas with room for an opening
+abbrev pub Opens : Areas → Type 0
+Opens l = (1 ≤ room 16 (length (l .matrices))) × (1 ≤ room 6 (length (l .viewports)))
 
 -- DEMAND 2: opened on any areas, after the prologue with any arguments, for every list of commands of the domain that the stage accepts
 abbrev pub Demand2 : Type 0
-Demand2 =
-    (l : Areas) → 1 ≤ room 16 (length (l .matrices)) → 1 ≤ room 6 (length (l .viewports)) → (p : Prologue) (cs : List Command)
-    → AllWithin (prologue p ++ cs) → AllDone (prologue p ++ cs) (book (opening l))
-    → Equals (prologue p ++ cs) (book (opening l)) (book (run stage (prologue p ++ cs) (opening l))) start
+Demand2 = (l : Areas) → Opens l → (p : Prologue) (cs : List Command) → AllWithin (prologue p ++ cs) → AllDone (prologue p ++ cs) (opening l) → Equals (prologue p ++ cs) (opening l) start
+
+-- refused commands among the others, whatever they are: the original is sent those that are accepted, and the stage leaves what it leaves without the rest
+abbrev pub Demand2AmongRefusals : Type 0
+Demand2AmongRefusals =
+    (l : Areas) → Opens l → (p : Prologue) (cs : List Command)
+    → let ds = accepted stage cs (run stage (prologue p) (opening l)) in
+    AllWithin (prologue p ++ ds) → AllDone (prologue p) (opening l) → Equals (prologue p ++ ds) (opening l) start × (run stage (prologue p ++ ds) (opening l) ≡ run stage (prologue p ++ cs) (opening l))
+
+-- the premises can be met: areas, arguments of the prologue and further commands, all accepted, that record n triangles
+pub record Inhabited (n : ℕ) : Type 0 where
+  pub areas : Areas
+  pub opens : Opens areas
+  pub arguments : Prologue
+  pub commands : List Command
+  pub within : AllWithin (prologue arguments ++ commands)
+  pub done : AllDone (prologue arguments ++ commands) (opening areas)
+  pub triangles : length (book (run stage (prologue arguments ++ commands) (opening areas)) .indices .used) ≡ 3 * n
 
 -- ---- refusals that are the original's too
 

@@ -19,7 +19,7 @@ use Rattle.stage.specs.declared.Lookat.{Lookat}
 use Rattle.stage.specs.Plan.{Row, pick}
 use Rattle.stage.specs.Lights.{microcodeNumber}
 use Rattle.sequence.specs.Sequence.{Book}
-use Rattle.sequence.proofs.Counted.{Counted}
+use Rattle.sequence.specs.Counted.{Counted}
 use Rattle.finished.specs.Shown.{Corner, entriesOf, fogShown, noRow, shown}
 use Rattle.original.specs.Math.{Mat4, f1}
 use Rattle.original.specs.Rsp.{Slots, Matrices, Viewports, TextureState, Texcoords, Lighting, Looking}

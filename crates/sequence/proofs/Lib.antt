@@ -5,5 +5,6 @@ pub mod Quiet
 pub mod Sized
 pub mod Held
 pub mod Opened
+pub mod Passed
 pub mod Joined
 pub mod Spelled

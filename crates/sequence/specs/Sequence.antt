@@ -1,7 +1,7 @@
 -- A sequence of commands, each given the state that the one before handed back and the same ten areas. Definitions only.
 -- What a command does is its plan of the stage's specs/, the one that its contract cites; the laws of proofs/Joined.antt say so.
 use Prim.Native.Nat.{ℕ}
-use mathlib.Core.Bool.{Bool, false}
+use mathlib.Core.Bool.{Bool, true, false}
 use mathlib.Core.List.{List, [], _∷_}
 use mathlib.Core.Path.{_≡_}
 use lib.ListN.{length}
@@ -12,7 +12,7 @@ use Rattle.decide.specs.Lights.{lightNumber}
 use Rattle.stage.specs.declared.State.{State}
 use Rattle.stage.specs.declared.Counts.{Counts}
 use Rattle.stage.specs.declared.settings.Microcode.{Microcode}
-use Rattle.stage.specs.Plan.{Table, table, rowTable, Row, rowFloats, rowWords, only, Edits, Plan, after, Outcome, settle}
+use Rattle.stage.specs.Plan.{Table, table, rowTable, Row, rowFloats, rowWords, only, Edits, Plan, refuse, does, pick, after, Outcome, settle}
 use Rattle.stage.specs.Opening.{blank, openingPlan, areas12}
 use Rattle.stage.specs.Matrices.{matrixPlan, forcePlan, popPlan, viewportPlan, geometryPlan}
 use Rattle.stage.specs.Lights.{texturePlan, fogPlan, numberPlan, lightPlan, lookatPlan, microcodePlan}
@@ -159,6 +159,16 @@ step m c p = record { state = result m c p .state; areas = result m c p .areas }
 unfoldable pub run : Machine → List Command → Port → Port
 run m [] p = p
 run m (c ∷ cs) p = run m cs (step m c p)
+
+-- a plan that is accepted
+abbrev pub isDone : Plan → Bool
+isDone (refuse n vs) = false
+isDone (does vs t e) = true
+
+-- the commands of a sequence that are accepted, each where it comes
+unfoldable pub accepted : Machine → List Command → Port → List Command
+accepted m [] p = []
+accepted m (c ∷ cs) p = pick (isDone (m c (book p))) (c ∷ accepted m cs (step m c p)) (accepted m cs (step m c p))
 
 -- the areas with tables 1 and 2 replaced
 abbrev pub with12 : Areas → List Float × List Float → Areas

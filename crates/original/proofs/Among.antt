@@ -1,0 +1,36 @@
+-- Demand 2 with refused commands among the others. Assumes nothing.
+use mathlib.Core.Path.{_≡_, refl, sym, ap, _∙_, subst}
+use mathlib.Core.List.{List, [], _∷_, _++_}
+use Rattle.decide.specs.Family.{f3dex2}
+use Rattle.stage.specs.Plan.{Plan, refuse, does, pick}
+use Rattle.sequence.specs.Sequence.{Command, Port, book, step, run, isDone, accepted, opening}
+use Rattle.sequence.proofs.Held.{run-append}
+use Rattle.sequence.proofs.Passed.{refused-rests, passed-over}
+use Rattle.original.specs.Domain.{IsDone, stage, AllDone, prologue, Demand2AmongRefusals}
+use Rattle.original.proofs.Prologues.{equals-original}
+
+-- two lists of accepted commands, one after the other
+done-append : (cs ds : List Command) (p : Port) → AllDone cs p → AllDone ds (run stage cs p) → AllDone (cs ++ ds) p
+unfolding run
+done-append [] ds p a b = b
+done-append (c ∷ cs) ds p a b = (a .0, done-append cs ds (step stage c p) (a .1) b)
+
+-- the accepted commands of a list are accepted without the others
+accepted-done : (cs : List Command) (p : Port) → AllDone (accepted stage cs p) p
+unfolding accepted pick
+accepted-done [] p = tt
+accepted-done (c ∷ cs) p = by (stage c (book p)) refl (accepted-done cs (step stage c p))
+  where
+    by : (q : Plan) → stage c (book p) ≡ q → AllDone (accepted stage cs (step stage c p)) (step stage c p)
+        → AllDone (pick (isDone q) (c ∷ accepted stage cs (step stage c p)) (accepted stage cs (step stage c p))) p
+    by (refuse n vs) e h = subst (AllDone (accepted stage cs (step stage c p))) (refused-rests stage c p (ap isDone e)) h
+    by (does vs t x) e h = (subst IsDone (sym e) tt, h)
+
+-- DEMAND 2 AMONG REFUSALS
+pub among-refusals : Demand2AmongRefusals
+among-refusals l o p cs h d =
+    let q : Port = run stage (prologue p) (opening l) in
+    let ds : List Command = accepted stage cs q in (
+      equals-original l o p ds h (done-append (prologue p) ds (opening l) d (accepted-done cs q)),
+      run-append f3dex2 256 (prologue p) ds (opening l) ∙ passed-over stage cs q ∙ sym (run-append f3dex2 256 (prologue p) cs (opening l)),
+    )
