@@ -44,7 +44,7 @@ use Rattle.sequence.specs.Sequence.{Command, load, draw, modify, Areas, Book, i
 use Rattle.sequence.proofs.Turn.{turn, course}
 use Rattle.sequence.proofs.Held.{run-book}
 use Rattle.sequence.proofs.Opened.{opened-book, open-book}
-use Rattle.original.specs.Domain.{Data, IsDone, stage, Bytes, Prologue, prologue, Inhabited}
+use Rattle.original.specs.Domain.{Data, AllWithin, IsDone, stage, Bytes, Prologue, prologue, Inhabited}
 use Rattle.original.proofs.Follows.{DoneFrom, on-port}
 
 -- ---- accepted, and bytes, as tests that compute
@@ -137,17 +137,31 @@ lent =
       runs = replicate 8 0;
     }
 
--- what is in use at the end
+-- all of them, and what is in use at the end
+abbrev every : List Command
+every = prologue example ++ further
+
 abbrev end : Book
-end = course stage (prologue example ++ further) (opened-book lent)
+end = course stage every (opened-book lent)
 
-accepted-all : all-done (prologue example ++ further) (opened-book lent) ≡ true
+computed : (all-done every (opened-book lent) ≡ true) × (length (end .indices .used) ≡ 6)
 unfolding toBits ofInt round add mul div neg lt le eq ne ofRatio isRatio root.step root.root root.rootBy root.rooted root.sqrt rowTimes colTimes times rows laid bitsOf codeOf screenOf depthOf entryAt rowAt matrixAt vertexAt tripleAt viewportAt colourAt directionAt lightAt put write matches eqbℤ texgenMode slotted made pushed popped relit folded lightEntry directional lightEntries lookatEntry find sameScale refold floatsOf wordsOf clipOf slotAt slotOf verticesAt decoded floatsAfter wordsAfter depthAfter appends comesTo closed sameRun held pick unless appended appending all stateSound blank start.opened combine turned matrixPlan popPlan viewing viewportPlan geometryPlan texturePlan fogPlan lightIn axisIn numberPlan ambientPlan slotPlan lightPlan lookatPlan settled settledState sharedBy loadEdits loadPlan fillSlot fillSlots asking changed changePlan modifyPlan runEdit drawPlan plan turn course
-accepted-all = refl
+computed = (refl, refl)
 
-six : length (end .indices .used) ≡ 6
-unfolding toBits ofInt round add mul div neg lt le eq ne ofRatio isRatio root.step root.root root.rootBy root.rooted root.sqrt rowTimes colTimes times rows laid bitsOf codeOf screenOf depthOf entryAt rowAt matrixAt vertexAt tripleAt viewportAt colourAt directionAt lightAt put write matches eqbℤ texgenMode slotted made pushed popped relit folded lightEntry directional lightEntries lookatEntry find sameScale refold floatsOf wordsOf clipOf slotAt slotOf verticesAt decoded floatsAfter wordsAfter depthAfter appends comesTo closed sameRun held pick unless appended appending all stateSound blank start.opened combine turned matrixPlan popPlan viewing viewportPlan geometryPlan texturePlan fogPlan lightIn axisIn numberPlan ambientPlan slotPlan lightPlan lookatPlan settled settledState sharedBy loadEdits loadPlan fillSlot fillSlots asking changed changePlan modifyPlan runEdit drawPlan plan turn course
-six = refl
+infixr 4 _and_
+_and_ : {A B : Type 0} → A → B → A × B
+a and b = (a, b)
+
+-- pop, both matrices, viewport; geometry, texture, fog, number; eight lights and two axes; the vertex; what follows
+within : AllWithin every
+within =
+    tt and bytes-of _ refl refl and bytes-of _ refl refl and bytes-of _ refl refl
+    and tt and (omega arith, omega arith) and tt and tt
+    and bytes-of _ refl refl and bytes-of _ refl refl and bytes-of _ refl refl and bytes-of _ refl refl
+    and bytes-of _ refl refl and bytes-of _ refl refl and bytes-of _ refl refl and bytes-of _ refl refl
+    and bytes-of _ refl refl and bytes-of _ refl refl
+    and bytes-of _ refl refl
+    and bytes-of _ refl refl and tt and omega arith and tt and tt
 
 -- THE PREMISES ARE MET, and two triangles recorded
 pub not-empty : Inhabited 2
@@ -158,31 +172,7 @@ not-empty =
       opens = (omega arith, omega arith);
       arguments = example;
       commands = further;
-      within = (
-        tt,
-        (bytes-of _ refl refl,
-        (bytes-of _ refl refl,
-        (bytes-of _ refl refl,
-        (tt,
-        ((omega arith, omega arith),
-        (tt,
-        (tt,
-        (bytes-of _ refl refl,
-        (bytes-of _ refl refl,
-        (bytes-of _ refl refl,
-        (bytes-of _ refl refl,
-        (bytes-of _ refl refl,
-        (bytes-of _ refl refl,
-        (bytes-of _ refl refl,
-        (bytes-of _ refl refl,
-        (bytes-of _ refl refl,
-        (bytes-of _ refl refl,
-        (bytes-of _ refl refl,
-        (bytes-of _ refl refl,
-        (tt,
-        (omega arith,
-        (tt, tt)))))))))))))))))))))),
-      );
-      done = on-port (prologue example ++ further) (opening lent) (o .0) (subst (DoneFrom (prologue example ++ further)) (sym (o .1)) (all-done-is (prologue example ++ further) (opened-book lent) accepted-all));
-      triangles = ap (λ (k : Book). length (k .indices .used)) (run-book f3dex2 256 (prologue example ++ further) (opening lent) (o .0) .1 ∙ ap (course stage (prologue example ++ further)) (o .1)) ∙ six;
+      within = within;
+      done = on-port every (opening lent) (o .0) (subst (DoneFrom every) (sym (o .1)) (all-done-is every (opened-book lent) (computed .0)));
+      triangles = ap (λ (k : Book). length (k .indices .used)) (run-book f3dex2 256 every (opening lent) (o .0) .1 ∙ ap (course stage every) (o .1)) ∙ computed .1;
     }

@@ -4,7 +4,6 @@ use Prim.Native.Nat.{ℕ}
 use lib.ListN.{length, length-append, length-set}
 use mathlib.Core.List.{List}
 use Rattle.stage.specs.declared.State.{State}
-use Rattle.stage.specs.declared.Counts.{Counts}
 use Rattle.stage.specs.Plan.{Edit, keep, grow, patch, Edits, counted}
 use Rattle.sequence.specs.Sequence.{Book}
 pub use Rattle.sequence.specs.Counted.{lengths, CountsAre, Counted}
