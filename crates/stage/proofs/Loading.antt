@@ -14,7 +14,7 @@ use Rattle.areas.proofs.Tables.{length-entries, room-fits}
 use Rattle.matrix.specs.Math.{rows}
 use Rattle.layout.specs.declared.records.Vertex.{Vertex}
 use Rattle.decide.specs.Family.{f3dex2}
-use Rattle.decide.specs.Judge.{firstShort}
+use Rattle.decide.specs.Judge.{Lent, firstShort}
 use Rattle.fold.specs.Lights.{lightEntries}
 use Rattle.fold.specs.Fog.{find}
 use Rattle.fold.specs.Lookat.{lookatEntry}
@@ -24,16 +24,18 @@ use Rattle.vertex.specs.Vertices.{floatsOf, wordsOf, verticesAt}
 use Rattle.vertex.proofs.Believe.{length-vertices}
 use Rattle.stage.specs.declared.State.{State}
 use Rattle.stage.specs.declared.Counts.{Counts}
+use Rattle.stage.specs.declared.Answer.{Answer}
+use Rattle.stage.specs.declared.Answered.{Answered}
 use Rattle.stage.specs.declared.Answer.the-variants.{Told, BadState, BadLoad, ShortData, ShortArea, NoRoom}
 use Rattle.stage.specs.declared.load.Settled.{Settled}
 use Rattle.stage.specs.declared.load.More.{More}
 use Rattle.stage.specs.declared.load.Rooms.{Rooms}
 use Rattle.stage.specs.Plan.{Edits, Plan, judge, more, pick, does, rowsOf, untouched, advance, Outcome, outcome, settle}
-use Rattle.stage.specs.Load.{settled, settledState, sharedBy, loadEdits, loadPlan, onlyIf, rowOf, LoadAreas, loadTables, loadLent, sixLent, roomsOf, moreBy, noMore, Ranged, TablesAre, areasLoad, fogPair}
+use Rattle.stage.specs.Load.{settled, settledState, sharedBy, loadEdits, loadDone, loadPlan, onlyIf, rowOf, LoadAreas, loadTables, loadLent, sixLent, roomsOf, moreBy, noMore, Ranged, TablesAre, areasLoad, fogPair}
 use Rattle.stage.specs.Sound.{stateSound}
 use Rattle.stage.specs.Rows.{RowsFit, RowsLaid, fillSlots}
 use Rattle.stage.specs.With.{withCounts}
-use Rattle.stage.proofs.Judged.{Ranges, and-right}
+use Rattle.stage.proofs.Judged.{Ranges, ranges, and-right}
 use Rattle.stage.proofs.Tabled.{Numbered, fits-first, table-refused, table-passed}
 use Rattle.stage.proofs.Cascade.{refused, passed}
 
@@ -43,7 +45,7 @@ length-rows : (n : ℕ) (f : List Float) (w : List ℕ) → length (rowsOf (entr
 length-rows zero f w = refl
 length-rows (suc n) f w = ap suc (length-rows n (lib.ListN.drop 9 f) (lib.ListN.drop 10 w))
 
-pub six-lent : (c : Counts) (l : LoadAreas) (e : Edits) (m : More) (r : Rooms)
+six-lent : (c : Counts) (l : LoadAreas) (e : Edits) (m : More) (r : Rooms)
     → r ≡ roomsOf (length (l .matrices)) (length (l .scales)) (length (l .lights)) (length (l .lookats)) (length (l .fogs)) (length (l .floats)) (length (l .words))
     → record { matrices = more (e .matrices); scales = more (e .scales); lights = more (e .lights); lookats = more (e .lookats); fogs = more (e .fogs); rows = more (e .rows) } ≡ m
     → loadLent (loadTables c l) e ≡ sixLent c m r
@@ -56,7 +58,7 @@ unfolding pick
 more-if true es k e = e
 more-if false es k e = refl
 
-pub load-more : (d : Settled) (s : State) (vs : List Vertex) (count : ℕ) → length vs ≡ count
+load-more : (d : Settled) (s : State) (vs : List Vertex) (count : ℕ) → length vs ≡ count
     → record { matrices = more (loadEdits d s vs .matrices); scales = more (loadEdits d s vs .scales); lights = more (loadEdits d s vs .lights); lookats = more (loadEdits d s vs .lookats); fogs = more (loadEdits d s vs .fogs); rows = more (loadEdits d s vs .rows) } ≡ moreBy d s count
 unfolding loadEdits moreBy
 load-more d s vs count h = λ i. record {
@@ -68,7 +70,7 @@ load-more d s vs count h = λ i. record {
   rows = (length-map vs (rowOf (sharedBy d s)) ∙ h) i;
 }
 
-pub six-numbered : (c : Counts) (m : More) (r : Rooms) → Numbered (sixLent c m r)
+six-numbered : (c : Counts) (m : More) (r : Rooms) → Numbered (sixLent c m r)
 six-numbered c m r = (omega arith, (omega arith, (omega arith, (omega arith, (omega arith, (omega arith, tt))))))
 
 -- table 7 has room for the rows
@@ -83,7 +85,7 @@ rows-room c m r e =
 
 -- ---- what has been judged by the time the rows are written
 
-pub fits-rows : (c : Counts) (d : Settled) (s : State) (m : More) (r : Rooms) (count f w : ℕ) → m ≡ moreBy d s count → r .rows ≡ min (room 9 f) (room 10 w) → firstShort (sixLent c m r) ≡ 0
+fits-rows : (c : Counts) (d : Settled) (s : State) (m : More) (r : Rooms) (count f w : ℕ) → m ≡ moreBy d s count → r .rows ≡ min (room 9 f) (room 10 w) → firstShort (sixLent c m r) ≡ 0
     → (c .rows + count ≤ 1048576) × ((c .rows + count) * 9 ≤ f) × ((c .rows + count) * 10 ≤ w)
 unfolding moreBy
 fits-rows c d s m r count f w e g h =
@@ -92,7 +94,7 @@ fits-rows c d s m r count f w e g h =
     let b = room-fits 10 w (c .rows + count) (omega arith) in
     (a .1, a .0, b .0)
 
-pub ranged : (s : State) (d : Settled) (x y : List (List Float)) (n : ℕ) (l : List ℤ) → n ≡ s .counts .fogs → d ≡ settled f3dex2 s x y (entries 2 n l) → Ranges s → Ranged s d
+ranged : (s : State) (d : Settled) (x y : List (List Float)) (n : ℕ) (l : List ℤ) → n ≡ s .counts .fogs → d ≡ settled f3dex2 s x y (entries 2 n l) → Ranges s → Ranged s d
 unfolding settled
 ranged s d x y n l g e r =
     record {
@@ -179,7 +181,7 @@ module _ (s s′ t : State) (d : Settled) (e : Shared) (m : List (List Float)) (
       ∙ ap (λ (es : List (List ℕ)). write 10 (s .counts .rows) es (l .words)) (sym (rows-words (sharedBy d s) vs))
 
   pub load-done : outcome (record { state = withCounts t (withRowCount c (c .rows + count)); answer = Told notice }) k
-      ≡ settle areasLoad (does (pick (s .defined) 0 1 ∷ []) (fillSlots (settledState d s) (rows (d .combined) 0) (sharedBy d s) first (s .counts .rows) vs) (loadEdits d s vs)) s l
+      ≡ settle areasLoad (loadDone d s first vs) s l
   unfolding settle loadEdits
   load-done = λ i. record {
     state = withCounts (state-then i) (counts-then i);
@@ -196,6 +198,37 @@ module _ (s s′ t : State) (d : Settled) (e : Shared) (m : List (List Float)) (
     };
   }
 
+-- a refusal handed back by another function
+pub handed : {A : Type 0} {l : A} {s : State} {a : Answer} {r : Answered} {o : Outcome A} → r ≡ record { state = s; answer = a } → outcome (record { state = s; answer = a }) l ≡ o → outcome r l ≡ o
+handed {l = l} e h = ap (λ (x : Answered). outcome x l) e ∙ h
+
+-- ---- what the tests of a load show, in their order
+
+-- the first three: the state is sound, the slots are there, the bytes reach
+pub record Judged (s : State) (first count at : ℕ) (bytes : List ℕ) : Type 0 where
+  pub sound : stateSound s ≡ true
+  pub slots : (leb count 256 && leb (first + count) 256) ≡ true
+  pub reach : leb (at + 16 * count) (length bytes) ≡ true
+
+-- these, and short is the first table that has less room than it holds, or 0
+pub record Roomed (s : State) (l : LoadAreas) (first count at : ℕ) (bytes : List ℕ) (short : ℕ) : Type 0 where
+  pub judged : Judged s first count at bytes
+  pub rooms : Rooms
+  pub none : More
+  pub is-rooms : rooms ≡ roomsOf (length (l .matrices)) (length (l .scales)) (length (l .lights)) (length (l .lookats)) (length (l .fogs)) (length (l .floats)) (length (l .words))
+  pub is-none : none ≡ noMore
+  pub is-short : short ≡ firstShort (sixLent (s .counts) none rooms)
+
+-- these, no table is short, and full is the first that has less room than it is to hold, or 0
+pub record Sized (s : State) (l : LoadAreas) (first count at : ℕ) (bytes : List ℕ) (d : Settled) (full : ℕ) : Type 0 where
+  pub short : ℕ
+  pub roomed : Roomed s l first count at bytes short
+  pub fits : short ≡ 0
+  pub is-settled : d ≡ settled f3dex2 s (entries 16 (s .counts .matrices) (l .matrices)) (entries 4 (s .counts .scales) (l .scales)) (entries 2 (s .counts .fogs) (l .fogs))
+  pub more : More
+  pub is-more : more ≡ moreBy d s count
+  pub is-full : full ≡ firstShort (sixLent (s .counts) more (roomed .rooms))
+
 -- ---- the load's ways out, each by the tests that lead there
 module _ (s : State) (l : LoadAreas) (first count at : ℕ) (bytes : List ℕ) where
   abbrev load-plan : Plan
@@ -205,76 +238,86 @@ module _ (s : State) (l : LoadAreas) (first count at : ℕ) (bytes : List ℕ) w
   unfolding loadPlan
   way-state h = refused areasLoad s l _ _ BadState h
 
-  module _ (sound : stateSound s ≡ true) where
-    pub way-slots : (leb count 256 && leb (first + count) 256) ≡ false → outcome (record { state = s; answer = BadLoad count first }) l ≡ settle areasLoad load-plan s l
+  pub way-slots : stateSound s ≡ true → (leb count 256 && leb (first + count) 256) ≡ false → outcome (record { state = s; answer = BadLoad count first }) l ≡ settle areasLoad load-plan s l
+  unfolding loadPlan
+  way-slots sound h = passed areasLoad s l _ _ _ _ _ sound (refused areasLoad s l _ _ (BadLoad count first) h)
+
+  pub way-data : stateSound s ≡ true → (leb count 256 && leb (first + count) 256) ≡ true → leb (at + 16 * count) (length bytes) ≡ false
+      → outcome (record { state = s; answer = ShortData (16 * count) }) l ≡ settle areasLoad load-plan s l
+  unfolding loadPlan
+  way-data sound slots h = passed areasLoad s l _ _ _ _ _ sound (passed areasLoad s l _ _ _ _ _ slots (refused areasLoad s l _ _ (ShortData (16 * count)) h))
+
+  abbrev tables : Edits → List Lent
+  tables e = loadLent (loadTables (s .counts) l) e
+
+  numbered : (e : Edits) (m : More) (r : Rooms) → tables e ≡ sixLent (s .counts) m r → Numbered (tables e)
+  numbered e m r h = subst Numbered (sym h) (six-numbered (s .counts) m r)
+
+  module _ (short : ℕ) (t : Roomed s l first count at bytes short) where
+    eight : tables untouched ≡ sixLent (s .counts) (t .none) (t .rooms)
+    eight = six-lent (s .counts) l untouched (t .none) (t .rooms) (t .is-rooms) (sym (t .is-none))
+
+    pub way-short : (short ≡ 0 → ⊥) → outcome (record { state = s; answer = ShortArea short }) l ≡ settle areasLoad load-plan s l
     unfolding loadPlan
-    way-slots h = passed areasLoad s l _ _ _ _ _ sound (refused areasLoad s l _ _ (BadLoad count first) h)
+    way-short h =
+        passed areasLoad s l _ _ _ _ _ (t .judged .sound)
+        (passed areasLoad s l _ _ _ _ _ (t .judged .slots)
+        (passed areasLoad s l _ _ _ _ _ (t .judged .reach)
+        (table-refused areasLoad s l 8 (tables untouched) _ (ShortArea short) short (numbered untouched (t .none) (t .rooms) eight) (t .is-short ∙ ap firstShort (sym eight)) h refl refl)))
 
-    module _ (slots : (leb count 256 && leb (first + count) 256) ≡ true) where
-      pub way-data : leb (at + 16 * count) (length bytes) ≡ false → outcome (record { state = s; answer = ShortData (16 * count) }) l ≡ settle areasLoad load-plan s l
-      unfolding loadPlan
-      way-data h = passed areasLoad s l _ _ _ _ _ sound (passed areasLoad s l _ _ _ _ _ slots (refused areasLoad s l _ _ (ShortData (16 * count)) h))
+    to-eight : short ≡ 0 → (p : Plan) (o : Outcome LoadAreas) → o ≡ settle areasLoad p s l → o ≡ settle areasLoad (judge 8 (tables untouched) p) s l
+    to-eight z p o h = table-passed areasLoad s l 8 (tables untouched) p o short (numbered untouched (t .none) (t .rooms) eight) (t .is-short ∙ ap firstShort (sym eight)) z h
 
-      module _ (reach : leb (at + 16 * count) (length bytes) ≡ true) (r : Rooms)
-          (is-rooms : r ≡ roomsOf (length (l .matrices)) (length (l .scales)) (length (l .lights)) (length (l .lookats)) (length (l .fogs)) (length (l .floats)) (length (l .words)))
-          (short : ℕ) (is-short : short ≡ firstShort (sixLent (s .counts) noMore r)) where
-        eight : loadLent (loadTables (s .counts) l) untouched ≡ sixLent (s .counts) noMore r
-        eight = six-lent (s .counts) l untouched noMore r is-rooms refl
+  module _ (d : Settled) (full : ℕ) (z : Sized s l first count at bytes d full) where
+    abbrev vs : List Vertex
+    vs = verticesAt bytes at count
 
-        numbered : (e : Edits) (m : More) → loadLent (loadTables (s .counts) l) e ≡ sixLent (s .counts) m r → Numbered (loadLent (loadTables (s .counts) l) e)
-        numbered e m h = subst Numbered (sym h) (six-numbered (s .counts) m r)
+    nine : tables (loadEdits d s vs) ≡ sixLent (s .counts) (z .more) (z .roomed .rooms)
+    nine = six-lent (s .counts) l (loadEdits d s vs) (z .more) (z .roomed .rooms) (z .roomed .is-rooms) (load-more d s vs count (length-vertices bytes at count) ∙ sym (z .is-more))
 
-        pub way-short : (short ≡ 0 → ⊥) → outcome (record { state = s; answer = ShortArea short }) l ≡ settle areasLoad load-plan s l
-        unfolding loadPlan
-        way-short h =
-            passed areasLoad s l _ _ _ _ _ sound
-            (passed areasLoad s l _ _ _ _ _ slots
-            (passed areasLoad s l _ _ _ _ _ reach
-            (table-refused areasLoad s l 8 (loadLent (loadTables (s .counts) l) untouched) _ (ShortArea short) short (numbered untouched noMore eight) (is-short ∙ ap firstShort (sym eight)) h refl refl)))
+    abbrev judged-nine : Settled → Plan
+    judged-nine x = judge 9 (tables (loadEdits x s vs)) (loadDone x s first vs)
 
-        module _ (fits8 : short ≡ 0) (d : Settled)
-            (is-settled : d ≡ settled f3dex2 s (entries 16 (s .counts .matrices) (l .matrices)) (entries 4 (s .counts .scales) (l .scales)) (entries 2 (s .counts .fogs) (l .fogs)))
-            (m : More) (is-more : m ≡ moreBy d s count) (full : ℕ) (is-full : full ≡ firstShort (sixLent (s .counts) m r)) where
-          abbrev vs : List Vertex
-          vs = verticesAt bytes at count
+    to-nine : (o : Outcome LoadAreas) → o ≡ settle areasLoad (judged-nine d) s l → o ≡ settle areasLoad load-plan s l
+    unfolding loadPlan
+    to-nine o h =
+        let j = z .roomed .judged in
+        passed areasLoad s l _ _ _ _ o (j .sound)
+        (passed areasLoad s l _ _ _ _ o (j .slots)
+        (passed areasLoad s l _ _ _ _ o (j .reach)
+        (to-eight (z .short) (z .roomed) (z .fits) _ o
+        (h ∙ ap (λ (x : Settled). settle areasLoad (judged-nine x) s l) (z .is-settled)))))
 
-          nine : loadLent (loadTables (s .counts) l) (loadEdits d s vs) ≡ sixLent (s .counts) m r
-          nine = six-lent (s .counts) l (loadEdits d s vs) m r is-rooms (load-more d s vs count (length-vertices bytes at count) ∙ sym is-more)
+    pub way-full : (full ≡ 0 → ⊥) → outcome (record { state = s; answer = NoRoom full }) l ≡ settle areasLoad load-plan s l
+    way-full h = to-nine _ (table-refused areasLoad s l 9 (tables (loadEdits d s vs)) (loadDone d s first vs) (NoRoom full) full (numbered (loadEdits d s vs) (z .more) (z .roomed .rooms) nine) (z .is-full ∙ ap firstShort (sym nine)) h refl refl)
 
-          abbrev rest : Plan
-          rest = does (pick (s .defined) 0 1 ∷ []) (fillSlots (settledState d s) (rows (d .combined) 0) (sharedBy d s) first (s .counts .rows) vs) (loadEdits d s vs)
+    pub way-done : full ≡ 0 → (o : Outcome LoadAreas) → o ≡ settle areasLoad (loadDone d s first vs) s l → o ≡ settle areasLoad load-plan s l
+    way-done e o h = to-nine o (table-passed areasLoad s l 9 (tables (loadEdits d s vs)) (loadDone d s first vs) o full (numbered (loadEdits d s vs) (z .more) (z .roomed .rooms) nine) (z .is-full ∙ ap firstShort (sym nine)) e h)
 
-          to-nine : (o : Outcome LoadAreas) → o ≡ settle areasLoad (judge 9 (loadLent (loadTables (s .counts) l) (loadEdits d s vs)) rest) s l → o ≡ settle areasLoad load-plan s l
-          unfolding loadPlan
-          to-nine o h =
-              passed areasLoad s l _ _ _ _ o sound
-              (passed areasLoad s l _ _ _ _ o slots
-              (passed areasLoad s l _ _ _ _ o reach
-              (table-passed areasLoad s l 8 (loadLent (loadTables (s .counts) l) untouched) _ o short (numbered untouched noMore eight) (is-short ∙ ap firstShort (sym eight)) fits8
-              (h ∙ ap (λ (x : Settled). settle areasLoad (judge 9 (loadLent (loadTables (s .counts) l) (loadEdits x s vs)) (does (pick (s .defined) 0 1 ∷ []) (fillSlots (settledState x s) (rows (x .combined) 0) (sharedBy x s) first (s .counts .rows) vs) (loadEdits x s vs))) s l) is-settled))))
+    -- what the writing half asks for
+    pub load-ready : full ≡ 0 → Ranged s d × RowsFit (settledState d s) first count at bytes (l .floats) (l .words)
+    unfolding settledState roomsOf
+    load-ready e =
+        let j = z .roomed .judged in
+        let g = fits-rows (s .counts) d s (z .more) (z .roomed .rooms) count (length (l .floats)) (length (l .words)) (z .is-more) (ap (λ (x : Rooms). x .rows) (z .roomed .is-rooms)) (sym (z .is-full) ∙ e) in (
+          ranged s d _ _ _ _ refl (z .is-settled) (ranges s (j .sound)),
+          record {
+            slots = leb-true _ _ (and-right (leb count 256) (leb (first + count) 256) (j .slots));
+            bytes = leb-true _ _ (j .reach);
+            rows = g .0;
+            floats = g .1;
+            words = g .2;
+          },
+        )
 
-          pub way-full : (full ≡ 0 → ⊥) → outcome (record { state = s; answer = NoRoom full }) l ≡ settle areasLoad load-plan s l
-          way-full h = to-nine _ (table-refused areasLoad s l 9 (loadLent (loadTables (s .counts) l) (loadEdits d s vs)) rest (NoRoom full) full (numbered (loadEdits d s vs) m nine) (is-full ∙ ap firstShort (sym nine)) h refl refl)
+-- ---- what the writing half needs on its way
 
-          pub way-done : full ≡ 0 → (o : Outcome LoadAreas) → o ≡ settle areasLoad rest s l → o ≡ settle areasLoad load-plan s l
-          way-done z o h = to-nine o (table-passed areasLoad s l 9 (loadLent (loadTables (s .counts) l) (loadEdits d s vs)) rest o full (numbered (loadEdits d s vs) m nine) (is-full ∙ ap firstShort (sym nine)) z h)
-
--- what the rows ask for
-pub fit-rows : (s s′ : State) (d : Settled) (m : More) (r : Rooms) (first count at x1 x2 x3 x4 x5 full : ℕ) (b : List ℕ) (f : List Float) (w : List ℕ) → s′ ≡ settledState d s
-    → (leb count 256 && leb (first + count) 256) ≡ true → leb (at + 16 * count) (length b) ≡ true → r ≡ roomsOf x1 x2 x3 x4 x5 (length f) (length w) → m ≡ moreBy d s count
-    → full ≡ firstShort (sixLent (s .counts) m r) → full ≡ 0 → RowsFit s′ first count at b f w
-unfolding settledState roomsOf
-fit-rows s s′ d m r first count at x1 x2 x3 x4 x5 full b f w e slots reach rooms mores is z =
-    let n : s′ .counts .rows ≡ s .counts .rows = ap (λ (x : State). x .counts .rows) e in
-    let g = fits-rows (s .counts) d s m r count (length f) (length w) mores (ap (λ (x : Rooms). x .rows) rooms) (sym is ∙ z) in
-    record {
-      slots = leb-true _ _ (and-right (leb count 256) (leb (first + count) 256) slots);
-      bytes = leb-true _ _ reach;
-      rows = subst (λ (k : ℕ). k + count ≤ 1048576) (sym n) (g .0);
-      floats = subst (λ (k : ℕ). (k + count) * 9 ≤ length f) (sym n) (g .1);
-      words = subst (λ (k : ℕ). (k + count) * 10 ≤ length w) (sym n) (g .2);
-    }
+-- the rows' ask, of the state as the code has it
+pub rows-fit : (s s′ : State) (d : Settled) (first count at : ℕ) (b : List ℕ) (f : List Float) (w : List ℕ) → s′ ≡ settledState d s → RowsFit (settledState d s) first count at b f w → RowsFit s′ first count at b f w
+rows-fit s s′ d first count at b f w e h = subst (λ (x : State). RowsFit x first count at b f w) (sym e) h
 
 -- the count of rows then
-pub rows-count : (s : State) (d : Settled) (e : Edits) (c : Counts) (a b l o : List Float) (f : List ℤ) (a′ b′ l′ o′ : List Float) (f′ : List ℤ) → TablesAre d s e c a b l o f a′ b′ l′ o′ f′ → c .rows ≡ s .counts .rows
-rows-count s d e c a b l o f a′ b′ l′ o′ f′ t = ap (λ (x : Counts). x .rows) (t .counts)
+pub rows-count : (s : State) (d : Settled) (e : Edits) (c : Counts) (a b l o : List Float) (f : List ℤ) (a′ b′ l′ o′ : List Float) (f′ : List ℤ) (first count at : ℕ) (bs : List ℕ) (x : List Float) (w : List ℕ)
+    → TablesAre d s e c a b l o f a′ b′ l′ o′ f′ → RowsFit (settledState d s) first count at bs x w → c .rows + count ≤ 1048576
+unfolding settledState
+rows-count s d e c a b l o f a′ b′ l′ o′ f′ first count at bs x w t h = subst (λ (n : ℕ). n + count ≤ 1048576) (sym (ap (λ (y : Counts). y .rows) (t .counts))) (h .rows)

@@ -145,6 +145,10 @@ loadEdits d s vs =
 abbrev pub loadLent : LoadTables → Edits → List Lent
 loadLent t e = lent 1 (t .matrices) (e .matrices) ∷ lent 3 (t .scales) (e .scales) ∷ lent 4 (t .lights) (e .lights) ∷ lent 5 (t .lookats) (e .lookats) ∷ lent 6 (t .fogs) (e .fogs) ∷ lent 7 (t .rows) (e .rows) ∷ []
 
+-- a load that nothing refuses: what it tells, the state with its slots filled, and what each table gets
+abbrev pub loadDone : Settled → State → ℕ → List Vertex → Plan
+loadDone d s first vs = does (pick (s .defined) 0 1 ∷ []) (fillSlots (settledState d s) (rows (d .combined) 0) (sharedBy d s) first (s .counts .rows) vs) (loadEdits d s vs)
+
 -- Load: count vertices of 16 bytes into the slots from first on
 unfoldable pub loadPlan : Family → ℕ → State → LoadTables → ℕ → ℕ → List ℕ → ℕ → Plan
 loadPlan f slots s t first count bytes at =

@@ -7,7 +7,9 @@ ghost use Rattle.areas.specs.Area.{entries, room};
 ghost use Rattle.decide.specs.Family.{f3dex2};
 ghost use Rattle.decide.specs.Judge.{firstShort};
 ghost use Rattle.stage.specs.Plan.{outcome, settle, table, pick};
-ghost use Rattle.stage.specs.Load.{settled, foldedLights, foldedLookat, combinedNow, sharedBy, settledState, loadEdits, loadPlan, areasLoad, Ranged, TablesAre, roomsOf, sixLent, moreBy, loadAreas, loadTables};
+ghost use Rattle.stage.specs.Load.{settled, foldedLights, foldedLookat, combinedNow, sharedBy, settledState, loadEdits, loadPlan, areasLoad, Ranged, TablesAre, roomsOf, sixLent, moreBy, noMore, loadDone, loadAreas, loadTables};
+ghost use Rattle.stage.specs.Rows.{RowsFit};
+ghost use Rattle.vertex.specs.Vertices.{verticesAt};
 use crate::Answer;
 use crate::Answered;
 use crate::Counts;
@@ -61,23 +63,48 @@ fn lesser(a: usize, b: usize) -> usize
     if a < b { a } else { b }
 }
 
-// The rooms of areas of so many numbers.
-fn rooms_of(a: usize, b: usize, l: usize, o: usize, f: usize, x: usize, w: usize) -> Rooms
-    ensures { λ r. ⌜ r ≡ roomsOf a b l o f x w ⌝ }
+// The rooms of a load's areas, as they are lent.
+fn rooms_of(
+    matrices: &[f32],
+    scales: &[f32],
+    lights: &[f32],
+    lookats: &[f32],
+    fogs: &[i16],
+    floats: &[f32],
+    words: &[u32],
+) -> Rooms
+    ensures { λ r. ⌜ r ≡ roomsOf (length (now (matrices .entry))) (length (now (scales .entry))) (length (now (lights .entry))) (length (now (lookats .entry))) (length (now (fogs .entry))) (length (now (floats .entry))) (length (now (words .entry))) ⌝ }
 {
-    let matrices = areas::room_of(16, a);
-    let scales = areas::room_of(4, b);
-    let lights = areas::room_of(6, l);
-    let lookats = areas::room_of(6, o);
-    let fogs = areas::room_of(2, f);
-    let rows = lesser(areas::room_of(9, x), areas::room_of(10, w));
+    let a = areas::room_of(16, matrices.len());
+    let b = areas::room_of(4, scales.len());
+    let l = areas::room_of(6, lights.len());
+    let o = areas::room_of(6, lookats.len());
+    let f = areas::room_of(2, fogs.len());
+    let r = lesser(
+        areas::room_of(9, floats.len()),
+        areas::room_of(10, words.len()),
+    );
     Rooms {
-        matrices: matrices,
-        scales: scales,
-        lights: lights,
-        lookats: lookats,
-        fogs: fogs,
-        rows: rows,
+        matrices: a,
+        scales: b,
+        lights: l,
+        lookats: o,
+        fogs: f,
+        rows: r,
+    }
+}
+
+// Nothing to be appended: what refusal 8 asks, of the entries in use alone.
+fn no_more() -> More
+    ensures { λ r. ⌜ r ≡ noMore ⌝ }
+{
+    More {
+        matrices: 0,
+        scales: 0,
+        lights: 0,
+        lookats: 0,
+        fogs: 0,
+        rows: 0,
     }
 }
 
@@ -308,9 +335,20 @@ impl State {
         }
     }
 
-    // Load: `count` vertices of 16 bytes into the slots from `first` on.
-    pub fn load(
+    // A refusal hands the state back as it came.
+    fn refused(self, answer: Answer) -> Answered
+        ensures { λ r. ⌜ r ≡ record { state = self; answer = answer } ⌝ }
+    {
+        Answered {
+            state: self,
+            answer: answer,
+        }
+    }
+
+    // The writing half of a load, which can refuse nothing any more. Asks for all that has been judged.
+    fn load_settled(
         self,
+        d: Settled,
         first: u32,
         count: u32,
         data: &[u8],
@@ -323,59 +361,9 @@ impl State {
         floats: &mut [f32],
         words: &mut [u32],
     ) -> Answered
-        ensures { λ r. ⌜ outcome r (loadAreas (now (matrices .exit)) (now (scales .exit)) (now (lights .exit)) (now (lookats .exit)) (now (fogs .exit)) (now (floats .exit)) (now (words .exit))) ≡ settle areasLoad (loadPlan f3dex2 256 self (loadTables (self .counts) (loadAreas (now (matrices .entry)) (now (scales .entry)) (now (lights .entry)) (now (lookats .entry)) (now (fogs .entry)) (now (floats .entry)) (now (words .entry)))) first count (now («data» .entry)) at) self (loadAreas (now (matrices .entry)) (now (scales .entry)) (now (lights .entry)) (now (lookats .entry)) (now (fogs .entry)) (now (floats .entry)) (now (words .entry))) ⌝ }
+        requires { ⌜ Ranged self d × RowsFit (settledState d self) first count at (now «data») (now floats) (now words) ⌝ }
+        ensures { λ r. ⌜ outcome r (loadAreas (now (matrices .exit)) (now (scales .exit)) (now (lights .exit)) (now (lookats .exit)) (now (fogs .exit)) (now (floats .exit)) (now (words .exit))) ≡ settle areasLoad (loadDone d self first (verticesAt (now («data» .entry)) at count)) self (loadAreas (now (matrices .entry)) (now (scales .entry)) (now (lights .entry)) (now (lookats .entry)) (now (fogs .entry)) (now (floats .entry)) (now (words .entry))) ⌝ }
     {
-        if !self.sound() {
-            return Answered {
-                state: self,
-                answer: Answer::BadState,
-            };
-        }
-        if !decide::judge::slots_there(256, first, count) {
-            return Answered {
-                state: self,
-                answer: Answer::BadLoad(count, first),
-            };
-        }
-        let need = 16 * count;
-        if !decide::judge::reaches(data.len(), at, need as usize) {
-            return Answered {
-                state: self,
-                answer: Answer::ShortData(need),
-            };
-        }
-        let rooms = rooms_of(
-            matrices.len(),
-            scales.len(),
-            lights.len(),
-            lookats.len(),
-            fogs.len(),
-            floats.len(),
-            words.len(),
-        );
-        let none = More {
-            matrices: 0,
-            scales: 0,
-            lights: 0,
-            lookats: 0,
-            fogs: 0,
-            rows: 0,
-        };
-        let short = short_table(self.counts, none, rooms);
-        if short != 0 {
-            return Answered {
-                state: self,
-                answer: Answer::ShortArea(short),
-            };
-        }
-        let d = self.settled_by(matrices, scales, fogs);
-        let full = short_table(self.counts, self.more_by(d, count), rooms);
-        if full != 0 {
-            return Answered {
-                state: self,
-                answer: Answer::NoRoom(full),
-            };
-        }
         let notice = decide::number::if_else(self.defined, 0, 1);
         let e = self.shared_by(d);
         let combined = d.combined;
@@ -398,5 +386,58 @@ impl State {
             state: t,
             answer: Answer::Told(notice),
         }
+    }
+
+    // Load: `count` vertices of 16 bytes into the slots from `first` on.
+    pub fn load(
+        self,
+        first: u32,
+        count: u32,
+        data: &[u8],
+        at: usize,
+        matrices: &mut [f32],
+        scales: &mut [f32],
+        lights: &mut [f32],
+        lookats: &mut [f32],
+        fogs: &mut [i16],
+        floats: &mut [f32],
+        words: &mut [u32],
+    ) -> Answered
+        ensures { λ r. ⌜ outcome r (loadAreas (now (matrices .exit)) (now (scales .exit)) (now (lights .exit)) (now (lookats .exit)) (now (fogs .exit)) (now (floats .exit)) (now (words .exit))) ≡ settle areasLoad (loadPlan f3dex2 256 self (loadTables (self .counts) (loadAreas (now (matrices .entry)) (now (scales .entry)) (now (lights .entry)) (now (lookats .entry)) (now (fogs .entry)) (now (floats .entry)) (now (words .entry)))) first count (now («data» .entry)) at) self (loadAreas (now (matrices .entry)) (now (scales .entry)) (now (lights .entry)) (now (lookats .entry)) (now (fogs .entry)) (now (floats .entry)) (now (words .entry))) ⌝ }
+    {
+        if !self.sound() {
+            return self.refused(Answer::BadState);
+        }
+        if !decide::judge::slots_there(256, first, count) {
+            return self.refused(Answer::BadLoad(count, first));
+        }
+        let need = 16 * count;
+        if !decide::judge::reaches(data.len(), at, need as usize) {
+            return self.refused(Answer::ShortData(need));
+        }
+        let rooms = rooms_of(matrices, scales, lights, lookats, fogs, floats, words);
+        let short = short_table(self.counts, no_more(), rooms);
+        if short != 0 {
+            return self.refused(Answer::ShortArea(short));
+        }
+        let d = self.settled_by(matrices, scales, fogs);
+        let full = short_table(self.counts, self.more_by(d, count), rooms);
+        if full != 0 {
+            return self.refused(Answer::NoRoom(full));
+        }
+        self.load_settled(
+            d,
+            first,
+            count,
+            data,
+            at,
+            matrices,
+            scales,
+            lights,
+            lookats,
+            fogs,
+            floats,
+            words,
+        )
     }
 }

@@ -29,7 +29,7 @@ lesser-requires c κs = search needs
 
 returns : tie.Need-returns
 unfolding roomsOf
-returns c = rw (c .lesser .ensures, c .before .room-of7 .ensures, c .before .before .room-of6 .ensures, c .before .before .before .room-of5 .ensures, c .before .before .before .before .room-of4 .ensures, c .before .before .before .before .before .room-of3 .ensures, c .before .before .before .before .before .before .room-of2 .ensures, c .before .before .before .before .before .before .before .room-of .ensures)
+returns c = cc
 
 pub rooms-of-spec : {M : Type 1} → statement M
 rooms-of-spec =
