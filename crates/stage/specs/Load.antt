@@ -154,13 +154,12 @@ unfoldable pub loadPlan : Family → ℕ → State → LoadTables → ℕ → �
 loadPlan f slots s t first count bytes at =
     let d = settled f s (t .matrices .used) (t .scales .used) (t .fogs .used) in
     let vs = verticesAt bytes at count in
-    let e = loadEdits d s vs in
     sound s
     (unless (leb count slots && leb (first + count) slots) 1 (count ∷ first ∷ [])
     (needs (16 * count) at bytes
     (judge 8 (loadLent t untouched)
-    (judge 9 (loadLent t e)
-    (does (pick (s .defined) 0 1 ∷ []) (fillSlots (settledState d s) (rows (d .combined) 0) (sharedBy d s) first (s .counts .rows) vs) e)))))
+    (judge 9 (loadLent t (loadEdits d s vs))
+    (loadDone d s first vs)))))
 
 -- ---- its areas
 

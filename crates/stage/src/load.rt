@@ -63,7 +63,7 @@ fn lesser(a: usize, b: usize) -> usize
     if a < b { a } else { b }
 }
 
-// The rooms of a load's areas, as they are lent.
+// The rooms of the lent areas. A row lies in two of them, and has the lesser room.
 fn rooms_of(
     matrices: &[f32],
     scales: &[f32],
@@ -75,26 +75,20 @@ fn rooms_of(
 ) -> Rooms
     ensures { λ r. ⌜ r ≡ roomsOf (length (now (matrices .entry))) (length (now (scales .entry))) (length (now (lights .entry))) (length (now (lookats .entry))) (length (now (fogs .entry))) (length (now (floats .entry))) (length (now (words .entry))) ⌝ }
 {
-    let a = areas::room_of(16, matrices.len());
-    let b = areas::room_of(4, scales.len());
-    let l = areas::room_of(6, lights.len());
-    let o = areas::room_of(6, lookats.len());
-    let f = areas::room_of(2, fogs.len());
-    let r = lesser(
-        areas::room_of(9, floats.len()),
-        areas::room_of(10, words.len()),
-    );
     Rooms {
-        matrices: a,
-        scales: b,
-        lights: l,
-        lookats: o,
-        fogs: f,
-        rows: r,
+        matrices: areas::room_of(16, matrices.len()),
+        scales: areas::room_of(4, scales.len()),
+        lights: areas::room_of(6, lights.len()),
+        lookats: areas::room_of(6, lookats.len()),
+        fogs: areas::room_of(2, fogs.len()),
+        rows: lesser(
+            areas::room_of(9, floats.len()),
+            areas::room_of(10, words.len()),
+        ),
     }
 }
 
-// Nothing to be appended: what refusal 8 asks, of the entries in use alone.
+// Nothing appended: with this, the tables are judged by what is in use already, which is refusal 8.
 fn no_more() -> More
     ensures { λ r. ⌜ r ≡ noMore ⌝ }
 {
@@ -388,7 +382,7 @@ impl State {
         }
     }
 
-    // Load: `count` vertices of 16 bytes into the slots from `first` on.
+    // Load: `count` vertices of 16 bytes into the slots from `first` on. Nothing is written before all is judged.
     pub fn load(
         self,
         first: u32,
