@@ -3,3 +3,4 @@ pub mod Reading
 pub mod Rolling
 pub mod Patterns
 pub mod Serving
+pub mod Applied

@@ -2,3 +2,4 @@ pub mod Script
 pub mod Header
 pub mod Acts
 pub mod Hash
+pub mod Ops

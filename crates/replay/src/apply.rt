@@ -2,7 +2,11 @@
 ghost use mathlib.Core.Path.{_≡_};
 ghost use mathlib.Core.Bool.{false};
 ghost use Prim.Native.Nat.{_%_, _≤_, min};
+ghost use lib.Dec.{eqb};
 ghost use Rattle.stage.specs.Opening.{blank};
+ghost use Rattle.stage.specs.Plan.{outcome, settle, nothing};
+ghost use Rattle.stage.specs.Lights.{texturePlan, microcodePlan};
+ghost use Rattle.replay.specs.Ops.{microcodeOf, SetAre, TurnAre, applyBy, areasOf, lendBy, stepBy};
 ghost use Rattle.numbers.specs.Ratio.{signed as Ratio·signed};
 use crate::act;
 use crate::ops;
@@ -29,7 +33,9 @@ fn signed(x: u32) -> i16
     numbers::signed::signed_half(script::half(x))
 }
 
-fn texture(state: State, a: Args) -> Answered {
+fn texture(state: State, a: Args) -> Answered
+    ensures { λ r. ⌜ outcome r tt ≡ settle nothing (texturePlan state (a .a % 256) (a .b % 256) (eqb (a .c % 2) 1) (a .d % 65536) (a .e % 65536)) state tt ⌝ }
+{
     state.set_texture(
         script::octet(a.a),
         script::octet(a.b),
@@ -39,13 +45,14 @@ fn texture(state: State, a: Args) -> Answered {
     )
 }
 
-fn microcode(state: State, number: u32) -> Answered {
-    let to = if number % 2 == 0 {
-        Microcode::F3dex2
+fn microcode(state: State, number: u32) -> Answered
+    ensures { λ r. ⌜ outcome r tt ≡ settle nothing (microcodePlan state (microcodeOf number)) state tt ⌝ }
+{
+    if number % 2 == 0 {
+        state.switch_microcode(Microcode::F3dex2)
     } else {
-        Microcode::F3dex2NoN
-    };
-    state.switch_microcode(to)
+        state.switch_microcode(Microcode::F3dex2NoN)
+    }
 }
 
 // The state before any opening: an opening that finds no room hands it back.
@@ -57,139 +64,12 @@ pub fn unopened() -> Answered
     State::opening(&mut none, &mut nothing)
 }
 
-// The commands on matrices and viewport.
-fn turn(
-    state: State,
-    op: u8,
-    a: u32,
-    data: &[u8],
-    matrices: &mut [f32],
-    viewports: &mut [f32],
-) -> Answered {
-    match op {
-        ops::OPEN => State::opening(matrices, viewports),
-        ops::MATRIX => state.matrix(script::octet(a), data, 0, matrices),
-        ops::FORCE => state.force_matrix(data, 0, matrices),
-        ops::POP => state.pop_matrix(a, matrices),
-        _ => state.set_viewport(data, 0, viewports),
-    }
-}
-
-// The same, and the commands below, with so much lent of each area.
-fn turn_lent(
-    state: State,
-    c: Call,
-    data: &[u8],
-    lent: Lengths,
-    matrices: &mut [f32],
-    viewports: &mut [f32],
-) -> Answered {
-    let m = within(lent.matrices, matrices.len());
-    let v = within(lent.viewports, viewports.len());
-    turn(
-        state,
-        c.op,
-        c.args.a,
-        data,
-        &mut matrices[..m],
-        &mut viewports[..v],
-    )
-}
-
-fn load_lent(
-    state: State,
-    a: Args,
-    data: &[u8],
-    lent: Lengths,
-    matrices: &mut [f32],
-    scales: &mut [f32],
-    lights: &mut [f32],
-    lookats: &mut [f32],
-    fogs: &mut [i16],
-    floats: &mut [f32],
-    words: &mut [u32],
-) -> Answered {
-    let m = within(lent.matrices, matrices.len());
-    let s = within(lent.scales, scales.len());
-    let l = within(lent.lights, lights.len());
-    let k = within(lent.lookats, lookats.len());
-    let g = within(lent.fogs, fogs.len());
-    let f = within(lent.floats, floats.len());
-    let w = within(lent.words, words.len());
-    state.load(
-        a.a,
-        a.b,
-        data,
-        0,
-        &mut matrices[..m],
-        &mut scales[..s],
-        &mut lights[..l],
-        &mut lookats[..k],
-        &mut fogs[..g],
-        &mut floats[..f],
-        &mut words[..w],
-    )
-}
-
-fn modify_lent(
-    state: State,
-    a: Args,
-    lent: Lengths,
-    scales: &mut [f32],
-    floats: &mut [f32],
-    words: &mut [u32],
-) -> Answered {
-    let s = within(lent.scales, scales.len());
-    let f = within(lent.floats, floats.len());
-    let w = within(lent.words, words.len());
-    state.modify_vertex(
-        a.a,
-        a.b,
-        a.c,
-        &mut scales[..s],
-        &mut floats[..f],
-        &mut words[..w],
-    )
-}
-
-fn draw_lent(
-    state: State,
-    a: Args,
-    lent: Lengths,
-    indices: &mut [u32],
-    runs: &mut [u32],
-) -> Answered {
-    let i = within(lent.indices, indices.len());
-    let r = within(lent.runs, runs.len());
-    state.draw_tri(
-        a.a,
-        a.b,
-        a.c,
-        a.d,
-        a.e,
-        a.f,
-        a.g,
-        &mut indices[..i],
-        &mut runs[..r],
-    )
-}
-
-fn ink_lent(
-    state: State,
-    colour: u32,
-    lent: Lengths,
-    floats: &[f32],
-    words: &[u32],
-    indices: &[u32],
-) -> Answered {
-    let f = within(lent.floats, floats.len());
-    let w = within(lent.words, words.len());
-    let i = within(lent.indices, indices.len());
-    state.ink_count(colour, &floats[..f], &words[..w], &indices[..i])
-}
-
-// The ops that are lent nothing; lend and mark leave the state as it is.
-fn set(state: State, op: u8, a: Args, data: &[u8]) -> Answered {
+// The ops that are lent nothing; lend, mark and write leave the state as it is.
+fn set(state: State, c: Call, data: &[u8]) -> Answered
+    ensures { λ r. ⌜ SetAre c (now («data» .entry)) state r ⌝ }
+{
+    let op = c.op;
+    let a = c.args;
     match op {
         ops::GEOM => state.modify_geometry_mode(a.a, a.b),
         ops::TEXTURE => texture(state, a),
@@ -211,35 +91,67 @@ fn set(state: State, op: u8, a: Args, data: &[u8]) -> Answered {
     }
 }
 
-// Draw, ink and write, and the ops that are lent nothing.
-fn record(
-    state: State,
-    c: Call,
-    data: &[u8],
-    lent: Lengths,
-    fogs: &mut [i16],
-    floats: &[f32],
-    words: &mut [u32],
-    indices: &mut [u32],
-    runs: &mut [u32],
-) -> Answered {
+// The ops on matrices and viewport, and those.
+fn turn(state: State, c: Call, data: &[u8], matrices: &mut [f32], viewports: &mut [f32]) -> Answered
+    ensures { λ r. ⌜ TurnAre c (now («data» .entry)) state (now (matrices .entry), now (viewports .entry)) r (now (matrices .exit), now (viewports .exit)) ⌝ }
+{
     let op = c.op;
+    let a = c.args.a;
     match op {
-        ops::DRAW => draw_lent(state, c.args, lent, indices, runs),
-        ops::INK => ink_lent(state, c.args.a, lent, floats, words, indices),
-        ops::WRITE => {
-            act::write(c, fogs, words, indices, runs);
-            Answered {
-                state: state,
-                answer: Answer::Done,
-            }
-        }
-        _ => set(state, op, c.args, data),
+        ops::OPEN => State::opening(matrices, viewports),
+        ops::MATRIX => state.matrix(script::octet(a), data, 0, matrices),
+        ops::FORCE => state.force_matrix(data, 0, matrices),
+        ops::POP => state.pop_matrix(a, matrices),
+        ops::VIEWPORT => state.set_viewport(data, 0, viewports),
+        _ => set(state, c, data),
     }
 }
 
-// The op c with its data, over the areas, of which so much is lent.
-pub fn apply(
+// Every op, over what is lent of the areas; what `write` stores is left to `step`.
+fn apply(
+    state: State,
+    c: Call,
+    data: &[u8],
+    matrices: &mut [f32],
+    viewports: &mut [f32],
+    scales: &mut [f32],
+    lights: &mut [f32],
+    lookats: &mut [f32],
+    fogs: &mut [i16],
+    floats: &mut [f32],
+    words: &mut [u32],
+    indices: &mut [u32],
+    runs: &mut [u32],
+) -> Answered
+    ensures { λ r. ⌜ outcome r (areasOf (now (matrices .exit)) (now (viewports .exit)) (now (scales .exit)) (now (lights .exit)) (now (lookats .exit)) (now (fogs .exit)) (now (floats .exit)) (now (words .exit)) (now (indices .exit)) (now (runs .exit))) ≡ applyBy c (now («data» .entry)) (record { state = state; areas = areasOf (now (matrices .entry)) (now (viewports .entry)) (now (scales .entry)) (now (lights .entry)) (now (lookats .entry)) (now (fogs .entry)) (now (floats .entry)) (now (words .entry)) (now (indices .entry)) (now (runs .entry)) }) ⌝ }
+{
+    let op = c.op;
+    let a = c.args;
+    match op {
+        ops::LOAD => {
+            state.load(
+                a.a,
+                a.b,
+                data,
+                0,
+                matrices,
+                scales,
+                lights,
+                lookats,
+                fogs,
+                floats,
+                words,
+            )
+        }
+        ops::MODIFY => state.modify_vertex(a.a, a.b, a.c, scales, floats, words),
+        ops::DRAW => state.draw_tri(a.a, a.b, a.c, a.d, a.e, a.f, a.g, indices, runs),
+        ops::INK => state.ink_count(a.a, floats, words, indices),
+        _ => turn(state, c, data, matrices, viewports),
+    }
+}
+
+// The same, with so much lent of each area.
+fn lend(
     state: State,
     c: Call,
     data: &[u8],
@@ -254,28 +166,71 @@ pub fn apply(
     words: &mut [u32],
     indices: &mut [u32],
     runs: &mut [u32],
-) -> Answered {
-    let op = c.op;
-    match op {
-        ops::OPEN | ops::MATRIX | ops::FORCE | ops::POP | ops::VIEWPORT => {
-            turn_lent(state, c, data, lent, matrices, viewports)
-        }
-        ops::LOAD => {
-            load_lent(
-                state,
-                c.args,
-                data,
-                lent,
-                matrices,
-                scales,
-                lights,
-                lookats,
-                fogs,
-                floats,
-                words,
-            )
-        }
-        ops::MODIFY => modify_lent(state, c.args, lent, scales, floats, words),
-        _ => record(state, c, data, lent, fogs, floats, words, indices, runs),
-    }
+) -> Answered
+    ensures { λ r. ⌜ outcome r (areasOf (now (matrices .exit)) (now (viewports .exit)) (now (scales .exit)) (now (lights .exit)) (now (lookats .exit)) (now (fogs .exit)) (now (floats .exit)) (now (words .exit)) (now (indices .exit)) (now (runs .exit))) ≡ lendBy c (now («data» .entry)) lent (record { state = state; areas = areasOf (now (matrices .entry)) (now (viewports .entry)) (now (scales .entry)) (now (lights .entry)) (now (lookats .entry)) (now (fogs .entry)) (now (floats .entry)) (now (words .entry)) (now (indices .entry)) (now (runs .entry)) }) ⌝ }
+{
+    let n0 = within(lent.matrices, matrices.len());
+    let n1 = within(lent.viewports, viewports.len());
+    let n2 = within(lent.scales, scales.len());
+    let n3 = within(lent.lights, lights.len());
+    let n4 = within(lent.lookats, lookats.len());
+    let n5 = within(lent.fogs, fogs.len());
+    let n6 = within(lent.floats, floats.len());
+    let n7 = within(lent.words, words.len());
+    let n8 = within(lent.indices, indices.len());
+    let n9 = within(lent.runs, runs.len());
+    apply(
+        state,
+        c,
+        data,
+        &mut matrices[..n0],
+        &mut viewports[..n1],
+        &mut scales[..n2],
+        &mut lights[..n3],
+        &mut lookats[..n4],
+        &mut fogs[..n5],
+        &mut floats[..n6],
+        &mut words[..n7],
+        &mut indices[..n8],
+        &mut runs[..n9],
+    )
+}
+
+// The op c with its data, over the areas, of which so much is lent; `write` reaches all of them.
+pub fn step(
+    state: State,
+    c: Call,
+    data: &[u8],
+    lent: Lengths,
+    matrices: &mut [f32],
+    viewports: &mut [f32],
+    scales: &mut [f32],
+    lights: &mut [f32],
+    lookats: &mut [f32],
+    fogs: &mut [i16],
+    floats: &mut [f32],
+    words: &mut [u32],
+    indices: &mut [u32],
+    runs: &mut [u32],
+) -> Answered
+    ensures { λ r. ⌜ outcome r (areasOf (now (matrices .exit)) (now (viewports .exit)) (now (scales .exit)) (now (lights .exit)) (now (lookats .exit)) (now (fogs .exit)) (now (floats .exit)) (now (words .exit)) (now (indices .exit)) (now (runs .exit))) ≡ stepBy c (now («data» .entry)) lent (record { state = state; areas = areasOf (now (matrices .entry)) (now (viewports .entry)) (now (scales .entry)) (now (lights .entry)) (now (lookats .entry)) (now (fogs .entry)) (now (floats .entry)) (now (words .entry)) (now (indices .entry)) (now (runs .entry)) }) ⌝ }
+{
+    let r = lend(
+        state,
+        c,
+        data,
+        lent,
+        matrices,
+        viewports,
+        scales,
+        lights,
+        lookats,
+        fogs,
+        floats,
+        words,
+        indices,
+        runs,
+    );
+    act::write(c, fogs, words, indices, runs);
+    r
 }

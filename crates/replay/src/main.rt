@@ -44,7 +44,7 @@ fn run(
         }
         let from = c.from;
         let to = c.to;
-        g = apply::apply(
+        g = apply::step(
             g.state,
             c,
             &s[from..to],
