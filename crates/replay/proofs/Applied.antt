@@ -21,7 +21,7 @@ use Rattle.stage.specs.Lights.{texturePlan, fogPlan, numberPlan, lightPlan, loo
 use Rattle.stage.specs.Load.{LoadAreas, areasLoad, loadTables, loadPlan}
 use Rattle.stage.specs.Modify.{areas37, modifyPlan, inkPlan}
 use Rattle.stage.specs.Draw.{areas89, cullPlan, depthPlan, drawPlan}
-use Rattle.sequence.specs.Sequence.{Areas, Port, with12}
+use Rattle.sequence.specs.Sequence.{Areas, with12}
 use Rattle.sequence.proofs.Joined as joined
 use Rattle.replay.specs.declared.rooms.Lengths.{Lengths}
 use Rattle.replay.specs.declared.script.Call.{Call}

@@ -4,3 +4,4 @@ pub mod Rolling
 pub mod Patterns
 pub mod Serving
 pub mod Applied
+pub mod Shapes

@@ -1,5 +1,6 @@
 // The ops of the format by their numbers, and what follows each.
-ghost use Prim.Native.Nat.{_≤_};
+ghost use mathlib.Core.Path.{_≡_};
+ghost use Rattle.replay.specs.Ops.{taking as Ops·taking, shapeOf};
 
 pub const OPEN: u8 = 0x01;
 
@@ -52,7 +53,9 @@ pub struct Shape {
     pub bytes: bool,
 }
 
-fn taking(arguments: u8, bytes: bool) -> Shape {
+fn taking(arguments: u8, bytes: bool) -> Shape
+    ensures { λ r. ⌜ r ≡ Ops·taking arguments bytes ⌝ }
+{
     Shape {
         known: true,
         arguments: arguments,
@@ -60,15 +63,22 @@ fn taking(arguments: u8, bytes: bool) -> Shape {
     }
 }
 
-pub fn shape_of(op: u8) -> Shape {
+// What follows an op, by its number. Neighbours do not share an arm: a range of keys is tested in steps, for nothing.
+pub fn shape_of(op: u8) -> Shape
+    ensures { λ r. ⌜ r ≡ shapeOf op ⌝ }
+{
     match op {
         OPEN | MARK => taking(0, false),
         FORCE | VIEWPORT => taking(0, true),
-        POP | LIGHTNUM | UCODE | INK => taking(1, false),
-        MATRIX | LIGHT | LOOKAT => taking(1, true),
-        GEOM | FOG | CULL | DEPTH | LEND => taking(2, false),
+        POP | LIGHTNUM | UCODE => taking(1, false),
+        INK => taking(1, false),
+        MATRIX | LIGHT => taking(1, true),
+        LOOKAT => taking(1, true),
+        GEOM | FOG | CULL | LEND => taking(2, false),
+        DEPTH => taking(2, false),
         LOAD => taking(2, true),
-        MODIFY | POKE | WRITE => taking(3, false),
+        MODIFY | POKE => taking(3, false),
+        WRITE => taking(3, false),
         TEXTURE => taking(5, false),
         DRAW => taking(7, false),
         _ => Shape {

@@ -6,9 +6,6 @@ use Rattle.stage.specs.Opening.{openingPlan}
 use borrow.Author.Needs.{needs}
 use Rattle.replay.proofs.apply.unopened.Statement.{statement}
 use Rattle.replay.proofs.apply.unopened.Tie as tie
-use Rattle.replay.proofs.apply.unopened.Reads as reads
-use Rattle.replay.proofs.apply.unopened.Lts as lts
-use Rattle.stage.proofs.State.opening.Reads as opening-reads
 
 -- src/apply.rt:57:20
 slice-aggregate-opening : tie.Need-slice-aggregate-opening
