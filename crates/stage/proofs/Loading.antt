@@ -3,8 +3,10 @@ use mathlib.Core.Path.{_≡_, refl, sym, ap, ap₂, _∙_, subst}
 use Prim.Native.Nat.{ℕ, zero, suc, _+_, _*_, _≤_, min}
 use native.Mathlib.Omega.{arith}
 use mathlib.Core.Bool.{Bool, true, false, _&&_}
-use lib.Dec.{leb}
-use borrow.Author.Tests.{leb-true}
+use lib.Dec.{leb, eqb}
+use borrow.Author.Tests.{leb-true, eqb-true, eqb-false}
+use types.Run.{OneOf, miss}
+use denote.Enum.Declared.{tagOf}
 use mathlib.Core.List.{List, [], _∷_, map}
 use lib.ListN.{length, length-map}
 use lib.IntN.{ℤ}
@@ -25,13 +27,13 @@ use Rattle.vertex.proofs.Believe.{length-vertices}
 use Rattle.stage.specs.declared.State.{State}
 use Rattle.stage.specs.declared.Counts.{Counts}
 use Rattle.stage.specs.declared.Answer.{Answer}
-use Rattle.stage.specs.declared.Answered.{Answered}
-use Rattle.stage.specs.declared.Answer.the-variants.{Told, BadState, BadLoad, ShortData, ShortArea, NoRoom}
+use Rattle.stage.specs.declared.Answer.the-variants.{Done, Told, BadState, BadLoad, ShortData, ShortArea, NoRoom}
+use Rattle.stage.proofs.Answer.{the-type}
 use Rattle.stage.specs.declared.load.Settled.{Settled}
 use Rattle.stage.specs.declared.load.More.{More}
 use Rattle.stage.specs.declared.load.Rooms.{Rooms}
-use Rattle.stage.specs.Plan.{Edits, Plan, judge, more, pick, does, rowsOf, untouched, advance, Outcome, outcome, settle}
-use Rattle.stage.specs.Load.{settled, settledState, sharedBy, loadEdits, loadDone, loadPlan, onlyIf, rowOf, LoadAreas, loadTables, loadLent, sixLent, roomsOf, moreBy, noMore, Ranged, TablesAre, areasLoad, fogPair}
+use Rattle.stage.specs.Plan.{Edits, Plan, judge, more, pick, rowsOf, untouched, advance, Outcome, outcome, settle}
+use Rattle.stage.specs.Load.{settled, settledState, sharedBy, loadEdits, loadDone, loadPlan, onlyIf, rowOf, LoadAreas, loadTables, loadLent, sixLent, roomsOf, moreBy, noMore, earlyAnswer, Ranged, TablesAre, areasLoad, fogPair}
 use Rattle.stage.specs.Sound.{stateSound}
 use Rattle.stage.specs.Rows.{RowsFit, RowsLaid, fillSlots}
 use Rattle.stage.specs.With.{withCounts}
@@ -198,10 +200,6 @@ module _ (s s′ t : State) (d : Settled) (e : Shared) (m : List (List Float)) (
     };
   }
 
--- a refusal handed back by another function
-pub handed : {A : Type 0} {l : A} {s : State} {a : Answer} {r : Answered} {o : Outcome A} → r ≡ record { state = s; answer = a } → outcome (record { state = s; answer = a }) l ≡ o → outcome r l ≡ o
-handed {l = l} e h = ap (λ (x : Answered). outcome x l) e ∙ h
-
 -- ---- what the tests of a load show, in their order
 
 -- the first three: the state is sound, the slots are there, the bytes reach
@@ -210,20 +208,20 @@ pub record Judged (s : State) (first count at : ℕ) (bytes : List ℕ) : Type 0
   pub slots : (leb count 256 && leb (first + count) 256) ≡ true
   pub reach : leb (at + 16 * count) (length bytes) ≡ true
 
--- these, and short is the first table that has less room than it holds, or 0
-pub record Roomed (s : State) (l : LoadAreas) (first count at : ℕ) (bytes : List ℕ) (short : ℕ) : Type 0 where
+-- these, and the rooms are the areas'
+pub record Roomed (s : State) (l : LoadAreas) (first count at : ℕ) (bytes : List ℕ) : Type 0 where
   pub judged : Judged s first count at bytes
   pub rooms : Rooms
-  pub none : More
   pub is-rooms : rooms ≡ roomsOf (length (l .matrices)) (length (l .scales)) (length (l .lights)) (length (l .lookats)) (length (l .fogs)) (length (l .floats)) (length (l .words))
-  pub is-none : none ≡ noMore
-  pub is-short : short ≡ firstShort (sixLent (s .counts) none rooms)
+
+-- the first table that has less room than it holds, or 0
+abbrev pub shortOf : State → Rooms → ℕ
+shortOf s r = firstShort (sixLent (s .counts) noMore r)
 
 -- these, no table is short, and full is the first that has less room than it is to hold, or 0
 pub record Sized (s : State) (l : LoadAreas) (first count at : ℕ) (bytes : List ℕ) (d : Settled) (full : ℕ) : Type 0 where
-  pub short : ℕ
-  pub roomed : Roomed s l first count at bytes short
-  pub fits : short ≡ 0
+  pub roomed : Roomed s l first count at bytes
+  pub fits : shortOf s (roomed .rooms) ≡ 0
   pub is-settled : d ≡ settled f3dex2 s (entries 16 (s .counts .matrices) (l .matrices)) (entries 4 (s .counts .scales) (l .scales)) (entries 2 (s .counts .fogs) (l .fogs))
   pub more : More
   pub is-more : more ≡ moreBy d s count
@@ -234,15 +232,15 @@ module _ (s : State) (l : LoadAreas) (first count at : ℕ) (bytes : List ℕ) w
   abbrev load-plan : Plan
   load-plan = loadPlan f3dex2 256 s (loadTables (s .counts) l) first count bytes at
 
-  pub way-state : stateSound s ≡ false → outcome (record { state = s; answer = BadState }) l ≡ settle areasLoad load-plan s l
+  way-state : stateSound s ≡ false → outcome (record { state = s; answer = BadState }) l ≡ settle areasLoad load-plan s l
   unfolding loadPlan
   way-state h = refused areasLoad s l _ _ BadState h
 
-  pub way-slots : stateSound s ≡ true → (leb count 256 && leb (first + count) 256) ≡ false → outcome (record { state = s; answer = BadLoad count first }) l ≡ settle areasLoad load-plan s l
+  way-slots : stateSound s ≡ true → (leb count 256 && leb (first + count) 256) ≡ false → outcome (record { state = s; answer = BadLoad count first }) l ≡ settle areasLoad load-plan s l
   unfolding loadPlan
   way-slots sound h = passed areasLoad s l _ _ _ _ _ sound (refused areasLoad s l _ _ (BadLoad count first) h)
 
-  pub way-data : stateSound s ≡ true → (leb count 256 && leb (first + count) 256) ≡ true → leb (at + 16 * count) (length bytes) ≡ false
+  way-data : stateSound s ≡ true → (leb count 256 && leb (first + count) 256) ≡ true → leb (at + 16 * count) (length bytes) ≡ false
       → outcome (record { state = s; answer = ShortData (16 * count) }) l ≡ settle areasLoad load-plan s l
   unfolding loadPlan
   way-data sound slots h = passed areasLoad s l _ _ _ _ _ sound (passed areasLoad s l _ _ _ _ _ slots (refused areasLoad s l _ _ (ShortData (16 * count)) h))
@@ -253,20 +251,63 @@ module _ (s : State) (l : LoadAreas) (first count at : ℕ) (bytes : List ℕ) w
   numbered : (e : Edits) (m : More) (r : Rooms) → tables e ≡ sixLent (s .counts) m r → Numbered (tables e)
   numbered e m r h = subst Numbered (sym h) (six-numbered (s .counts) m r)
 
-  module _ (short : ℕ) (t : Roomed s l first count at bytes short) where
-    eight : tables untouched ≡ sixLent (s .counts) (t .none) (t .rooms)
-    eight = six-lent (s .counts) l untouched (t .none) (t .rooms) (t .is-rooms) (sym (t .is-none))
+  module _ (t : Roomed s l first count at bytes) where
+    eight : tables untouched ≡ sixLent (s .counts) noMore (t .rooms)
+    eight = six-lent (s .counts) l untouched noMore (t .rooms) (t .is-rooms) refl
 
-    pub way-short : (short ≡ 0 → ⊥) → outcome (record { state = s; answer = ShortArea short }) l ≡ settle areasLoad load-plan s l
+    way-short : (shortOf s (t .rooms) ≡ 0 → ⊥) → outcome (record { state = s; answer = ShortArea (shortOf s (t .rooms)) }) l ≡ settle areasLoad load-plan s l
     unfolding loadPlan
     way-short h =
         passed areasLoad s l _ _ _ _ _ (t .judged .sound)
         (passed areasLoad s l _ _ _ _ _ (t .judged .slots)
         (passed areasLoad s l _ _ _ _ _ (t .judged .reach)
-        (table-refused areasLoad s l 8 (tables untouched) _ (ShortArea short) short (numbered untouched (t .none) (t .rooms) eight) (t .is-short ∙ ap firstShort (sym eight)) h refl refl)))
+        (table-refused areasLoad s l 8 (tables untouched) _ (ShortArea (shortOf s (t .rooms))) (shortOf s (t .rooms)) (numbered untouched noMore (t .rooms) eight) (ap firstShort (sym eight)) h refl refl)))
 
-    to-eight : short ≡ 0 → (p : Plan) (o : Outcome LoadAreas) → o ≡ settle areasLoad p s l → o ≡ settle areasLoad (judge 8 (tables untouched) p) s l
-    to-eight z p o h = table-passed areasLoad s l 8 (tables untouched) p o short (numbered untouched (t .none) (t .rooms) eight) (t .is-short ∙ ap firstShort (sym eight)) z h
+    to-eight : shortOf s (t .rooms) ≡ 0 → (p : Plan) (o : Outcome LoadAreas) → o ≡ settle areasLoad p s l → o ≡ settle areasLoad (judge 8 (tables untouched) p) s l
+    to-eight z p o h = table-passed areasLoad s l 8 (tables untouched) p o (shortOf s (t .rooms)) (numbered untouched noMore (t .rooms) eight) (ap firstShort (sym eight)) z h
+
+  -- the early answer, by its four tests
+  module _ (r : Rooms) (is-rooms : r ≡ roomsOf (length (l .matrices)) (length (l .scales)) (length (l .lights)) (length (l .lookats)) (length (l .fogs)) (length (l .floats)) (length (l .words))) where
+    abbrev answered : Bool → Bool → Bool → Bool → Answer
+    answered b₁ b₂ b₃ b₄ = pick b₁ (pick b₂ (pick b₃ (pick b₄ Done (ShortArea (shortOf s r))) (ShortData (16 * count))) (BadLoad count first)) BadState
+
+    abbrev judgement : stateSound s ≡ true → (leb count 256 && leb (first + count) 256) ≡ true → leb (at + 16 * count) (length bytes) ≡ true → Roomed s l first count at bytes
+    judgement e₁ e₂ e₃ = record { judged = record { sound = e₁; slots = e₂; reach = e₃ }; rooms = r; is-rooms = is-rooms }
+
+    abbrev Refuses : Answer → Type 0
+    Refuses a = outcome (record { state = s; answer = a }) l ≡ settle areasLoad load-plan s l
+
+    -- the tags of every answer but Done
+    abbrev others : List ℕ
+    others = 1 ∷ 2 ∷ 3 ∷ 4 ∷ 5 ∷ 6 ∷ 7 ∷ 8 ∷ 9 ∷ 10 ∷ 11 ∷ []
+
+    refuses : (b₁ b₂ b₃ b₄ : Bool) → stateSound s ≡ b₁ → (leb count 256 && leb (first + count) 256) ≡ b₂ → leb (at + 16 * count) (length bytes) ≡ b₃ → eqb (shortOf s r) 0 ≡ b₄
+        → OneOf others (tagOf the-type (answered b₁ b₂ b₃ b₄)) → Refuses (answered b₁ b₂ b₃ b₄)
+    unfolding pick
+    refuses false b₂ b₃ b₄ e₁ e₂ e₃ e₄ o = way-state e₁
+    refuses true false b₃ b₄ e₁ e₂ e₃ e₄ o = way-slots e₁ e₂
+    refuses true true false b₄ e₁ e₂ e₃ e₄ o = way-data e₁ e₂ e₃
+    refuses true true true false e₁ e₂ e₃ e₄ o = way-short (judgement e₁ e₂ e₃) (eqb-false _ _ e₄)
+    refuses true true true true e₁ e₂ e₃ e₄ o = absurd (miss others 0 tt o)
+
+    goes-on : (b₁ b₂ b₃ b₄ : Bool) → stateSound s ≡ b₁ → (leb count 256 && leb (first + count) 256) ≡ b₂ → leb (at + 16 * count) (length bytes) ≡ b₃ → eqb (shortOf s r) 0 ≡ b₄
+        → tagOf the-type (answered b₁ b₂ b₃ b₄) ≡ 0 → Judged s first count at bytes × (shortOf s r ≡ 0)
+    unfolding pick
+    goes-on false b₂ b₃ b₄ e₁ e₂ e₃ e₄ o = absurd (let z : _≡_ {A = ℕ} 11 0 = o in omega arith)
+    goes-on true false b₃ b₄ e₁ e₂ e₃ e₄ o = absurd (let z : _≡_ {A = ℕ} 2 0 = o in omega arith)
+    goes-on true true false b₄ e₁ e₂ e₃ e₄ o = absurd (let z : _≡_ {A = ℕ} 8 0 = o in omega arith)
+    goes-on true true true false e₁ e₂ e₃ e₄ o = absurd (let z : _≡_ {A = ℕ} 9 0 = o in omega arith)
+    goes-on true true true true e₁ e₂ e₃ e₄ o = (record { sound = e₁; slots = e₂; reach = e₃ }, eqb-true _ _ e₄)
+
+    -- an early answer that is not Done is the load's
+    pub way-early : (a : Answer) → a ≡ earlyAnswer s first count (length bytes) at r → OneOf others (tagOf the-type a) → Refuses a
+    unfolding earlyAnswer
+    way-early a q o = subst Refuses (sym q) (refuses _ _ _ _ refl refl refl refl (subst (λ (x : Answer). OneOf others (tagOf the-type x)) q o))
+
+    -- where it is, all four tests are passed
+    pub passed-early : (a : Answer) → a ≡ earlyAnswer s first count (length bytes) at r → tagOf the-type a ≡ 0 → Judged s first count at bytes × (shortOf s r ≡ 0)
+    unfolding earlyAnswer
+    passed-early a q o = goes-on _ _ _ _ refl refl refl refl (sym (ap (tagOf the-type) q) ∙ o)
 
   module _ (d : Settled) (full : ℕ) (z : Sized s l first count at bytes d full) where
     abbrev vs : List Vertex
@@ -285,7 +326,7 @@ module _ (s : State) (l : LoadAreas) (first count at : ℕ) (bytes : List ℕ) w
         passed areasLoad s l _ _ _ _ o (j .sound)
         (passed areasLoad s l _ _ _ _ o (j .slots)
         (passed areasLoad s l _ _ _ _ o (j .reach)
-        (to-eight (z .short) (z .roomed) (z .fits) _ o
+        (to-eight (z .roomed) (z .fits) _ o
         (h ∙ ap (λ (x : Settled). settle areasLoad (judged-nine x) s l) (z .is-settled)))))
 
     pub way-full : (full ≡ 0 → ⊥) → outcome (record { state = s; answer = NoRoom full }) l ≡ settle areasLoad load-plan s l

@@ -1,6 +1,6 @@
 -- The meaning of load (port order 5): what it settles first, then its rows. Definitions only.
 use Prim.Native.Nat.{ℕ, _+_, _-_, _*_, _≤_, min}
-use mathlib.Core.Bool.{Bool, true, false, not, _&&_, _||_}
+use mathlib.Core.Bool.{Bool, true, false, not, _&&_}
 use mathlib.Core.Path.{_≡_}
 use mathlib.Core.List.{List, [], _∷_, map}
 use lib.ListN.{length}
@@ -11,7 +11,7 @@ use Rattle.areas.specs.Area.{matches, room}
 use Rattle.matrix.specs.Math.{at, rows, laid, times}
 use Rattle.layout.specs.declared.records.Vertex.{Vertex}
 use Rattle.decide.specs.Append.{final}
-use Rattle.decide.specs.Judge.{Lent}
+use Rattle.decide.specs.Judge.{Lent, firstShort}
 use Rattle.decide.specs.Family.{Family, flag, lit, texgenMode}
 use Rattle.fold.specs.Decision.{refold}
 use Rattle.fold.specs.Fog.{find}
@@ -21,6 +21,8 @@ use Rattle.fold.specs.Scales.{scaleEntry, sameScale}
 use Rattle.vertex.specs.declared.Shared.{Shared}
 use Rattle.vertex.specs.Vertices.{floatsOf, wordsOf, verticesAt}
 use Rattle.stage.specs.declared.State.{State}
+use Rattle.stage.specs.declared.Answer.{Answer}
+use Rattle.stage.specs.declared.Answer.the-variants.{Done, BadState, BadLoad, ShortData, ShortArea}
 use Rattle.stage.specs.declared.Counts.{Counts}
 use Rattle.stage.specs.declared.Lights.{Lights}
 use Rattle.stage.specs.declared.Lookat.{Lookat}
@@ -28,7 +30,7 @@ use Rattle.stage.specs.declared.load.Settled.{Settled}
 use Rattle.stage.specs.declared.load.More.{More}
 use Rattle.stage.specs.declared.load.Rooms.{Rooms}
 use Rattle.stage.specs.Plan.{Table, Edit, keep, grow, Row, Edits, Plan, unless, pick, does, lent, judge, needs, counted, after, untouched, table, rowTable, rowFloats, rowWords, only}
-use Rattle.stage.specs.Sound.{sound}
+use Rattle.stage.specs.Sound.{stateSound, sound}
 use Rattle.stage.specs.Matrices.{top}
 use Rattle.stage.specs.Rows.{fillSlots}
 use Rattle.stage.specs.With.{withCombined, withLights, withLookat}
@@ -257,3 +259,15 @@ moreBy d s count =
 
 abbrev pub noMore : More
 noMore = record { matrices = 0; scales = 0; lights = 0; lookats = 0; fogs = 0; rows = 0 }
+
+-- the answer of a load that is due before anything is settled, by the rooms r of its areas and the length of its data: Done where none is
+unfoldable pub earlyAnswer : State → ℕ → ℕ → ℕ → ℕ → Rooms → Answer
+earlyAnswer s first count len at r =
+    let short = firstShort (sixLent (s .counts) noMore r) in
+    pick (stateSound s)
+    (pick (leb count 256 && leb (first + count) 256)
+    (pick (leb (at + 16 * count) len)
+    (pick (eqb short 0) Done (ShortArea short))
+    (ShortData (16 * count)))
+    (BadLoad count first))
+    BadState

@@ -7,9 +7,7 @@ ghost use Rattle.areas.specs.Area.{entries, room};
 ghost use Rattle.decide.specs.Family.{f3dex2};
 ghost use Rattle.decide.specs.Judge.{firstShort};
 ghost use Rattle.stage.specs.Plan.{outcome, settle, table, pick};
-ghost use Rattle.stage.specs.Load.{settled, foldedLights, foldedLookat, combinedNow, sharedBy, settledState, loadEdits, loadPlan, areasLoad, Ranged, TablesAre, roomsOf, sixLent, moreBy, noMore, loadDone, loadAreas, loadTables};
-ghost use Rattle.stage.specs.Rows.{RowsFit};
-ghost use Rattle.vertex.specs.Vertices.{verticesAt};
+ghost use Rattle.stage.specs.Load.{settled, foldedLights, foldedLookat, combinedNow, sharedBy, settledState, loadEdits, loadPlan, areasLoad, Ranged, TablesAre, roomsOf, sixLent, moreBy, noMore, earlyAnswer, loadAreas, loadTables};
 use crate::Answer;
 use crate::Answered;
 use crate::Counts;
@@ -329,20 +327,30 @@ impl State {
         }
     }
 
-    // A refusal hands the state back as it came.
-    fn refused(self, answer: Answer) -> Answered
-        ensures { λ r. ⌜ r ≡ record { state = self; answer = answer } ⌝ }
+    // The answer of a load that is due before anything is settled: Done where none is.
+    fn early(self, first: u32, count: u32, len: usize, at: usize, rooms: Rooms) -> Answer
+        ensures { λ r. ⌜ r ≡ earlyAnswer self first count len at rooms ⌝ }
     {
-        Answered {
-            state: self,
-            answer: answer,
+        if !self.sound() {
+            return Answer::BadState;
         }
+        if !decide::judge::slots_there(256, first, count) {
+            return Answer::BadLoad(count, first);
+        }
+        let need = 16 * count;
+        if !decide::judge::reaches(len, at, need as usize) {
+            return Answer::ShortData(need);
+        }
+        let short = short_table(self.counts, no_more(), rooms);
+        if short != 0 {
+            return Answer::ShortArea(short);
+        }
+        Answer::Done
     }
 
-    // The writing half of a load, which can refuse nothing any more. Asks for all that has been judged.
-    fn load_settled(
+    // Load: `count` vertices of 16 bytes into the slots from `first` on. Nothing is written before all is judged.
+    pub fn load(
         self,
-        d: Settled,
         first: u32,
         count: u32,
         data: &[u8],
@@ -355,9 +363,27 @@ impl State {
         floats: &mut [f32],
         words: &mut [u32],
     ) -> Answered
-        requires { ⌜ Ranged self d × RowsFit (settledState d self) first count at (now «data») (now floats) (now words) ⌝ }
-        ensures { λ r. ⌜ outcome r (loadAreas (now (matrices .exit)) (now (scales .exit)) (now (lights .exit)) (now (lookats .exit)) (now (fogs .exit)) (now (floats .exit)) (now (words .exit))) ≡ settle areasLoad (loadDone d self first (verticesAt (now («data» .entry)) at count)) self (loadAreas (now (matrices .entry)) (now (scales .entry)) (now (lights .entry)) (now (lookats .entry)) (now (fogs .entry)) (now (floats .entry)) (now (words .entry))) ⌝ }
+        ensures { λ r. ⌜ outcome r (loadAreas (now (matrices .exit)) (now (scales .exit)) (now (lights .exit)) (now (lookats .exit)) (now (fogs .exit)) (now (floats .exit)) (now (words .exit))) ≡ settle areasLoad (loadPlan f3dex2 256 self (loadTables (self .counts) (loadAreas (now (matrices .entry)) (now (scales .entry)) (now (lights .entry)) (now (lookats .entry)) (now (fogs .entry)) (now (floats .entry)) (now (words .entry)))) first count (now («data» .entry)) at) self (loadAreas (now (matrices .entry)) (now (scales .entry)) (now (lights .entry)) (now (lookats .entry)) (now (fogs .entry)) (now (floats .entry)) (now (words .entry))) ⌝ }
     {
+        let rooms = rooms_of(matrices, scales, lights, lookats, fogs, floats, words);
+        let early = self.early(first, count, data.len(), at, rooms);
+        match early {
+            Answer::Done => {}
+            _ => {
+                return Answered {
+                    state: self,
+                    answer: early,
+                };
+            }
+        }
+        let d = self.settled_by(matrices, scales, fogs);
+        let full = short_table(self.counts, self.more_by(d, count), rooms);
+        if full != 0 {
+            return Answered {
+                state: self,
+                answer: Answer::NoRoom(full),
+            };
+        }
         let notice = decide::number::if_else(self.defined, 0, 1);
         let e = self.shared_by(d);
         let combined = d.combined;
@@ -380,58 +406,5 @@ impl State {
             state: t,
             answer: Answer::Told(notice),
         }
-    }
-
-    // Load: `count` vertices of 16 bytes into the slots from `first` on. Nothing is written before all is judged.
-    pub fn load(
-        self,
-        first: u32,
-        count: u32,
-        data: &[u8],
-        at: usize,
-        matrices: &mut [f32],
-        scales: &mut [f32],
-        lights: &mut [f32],
-        lookats: &mut [f32],
-        fogs: &mut [i16],
-        floats: &mut [f32],
-        words: &mut [u32],
-    ) -> Answered
-        ensures { λ r. ⌜ outcome r (loadAreas (now (matrices .exit)) (now (scales .exit)) (now (lights .exit)) (now (lookats .exit)) (now (fogs .exit)) (now (floats .exit)) (now (words .exit))) ≡ settle areasLoad (loadPlan f3dex2 256 self (loadTables (self .counts) (loadAreas (now (matrices .entry)) (now (scales .entry)) (now (lights .entry)) (now (lookats .entry)) (now (fogs .entry)) (now (floats .entry)) (now (words .entry)))) first count (now («data» .entry)) at) self (loadAreas (now (matrices .entry)) (now (scales .entry)) (now (lights .entry)) (now (lookats .entry)) (now (fogs .entry)) (now (floats .entry)) (now (words .entry))) ⌝ }
-    {
-        if !self.sound() {
-            return self.refused(Answer::BadState);
-        }
-        if !decide::judge::slots_there(256, first, count) {
-            return self.refused(Answer::BadLoad(count, first));
-        }
-        let need = 16 * count;
-        if !decide::judge::reaches(data.len(), at, need as usize) {
-            return self.refused(Answer::ShortData(need));
-        }
-        let rooms = rooms_of(matrices, scales, lights, lookats, fogs, floats, words);
-        let short = short_table(self.counts, no_more(), rooms);
-        if short != 0 {
-            return self.refused(Answer::ShortArea(short));
-        }
-        let d = self.settled_by(matrices, scales, fogs);
-        let full = short_table(self.counts, self.more_by(d, count), rooms);
-        if full != 0 {
-            return self.refused(Answer::NoRoom(full));
-        }
-        self.load_settled(
-            d,
-            first,
-            count,
-            data,
-            at,
-            matrices,
-            scales,
-            lights,
-            lookats,
-            fogs,
-            floats,
-            words,
-        )
     }
 }
