@@ -53,7 +53,18 @@ same-length-4 c = search needs
 
 returns : tie.Need-returns
 unfolding writtenTo
-returns c = (rw (c .before .before .before .before .before .before .before .before .before .before .before .before .before .before .before .before .write-half .ensures, c .before .before .before .before .before .before .before .before .before .before .before .before .before .before .before .before .before .writes-to .ensures, handed w16 (c .before .before .before .before .before .before .before .before .before .before .before .before .before .before .before .before .before .before .before .signed-half .ok) (c .before .before .before .before .before .before .before .before .before .before .before .before .before .before .before .before .before .before .before .signed-half .ensures), c .before .before .before .before .before .before .before .before .before .before .before .before .before .before .before .before .before .before .before .before .half .ensures), (rw (c .before .before .before .before .before .before .before .before .before .before .before .before .write-word .ensures, c .before .before .before .before .before .before .before .before .before .before .before .before .before .writes-to2 .ensures), (rw (c .before .before .before .before .before .before .before .write-word2 .ensures, c .before .before .before .before .before .before .before .before .writes-to3 .ensures), rw (c .before .before .write-word3 .ensures, c .before .before .before .writes-to4 .ensures))))
+returns c =
+    let at-write-word3 = c .before .before .write-word3 in
+    let at-writes-to4 = c .before .before .before .writes-to4 in
+    let at-write-word2 = c .before .before .before .before .before .before .before .write-word2 in
+    let at-writes-to3 = c .before .before .before .before .before .before .before .before .writes-to3 in
+    let at-write-word = c .before .before .before .before .before .before .before .before .before .before .before .before .write-word in
+    let at-writes-to2 = c .before .before .before .before .before .before .before .before .before .before .before .before .before .writes-to2 in
+    let at-write-half = c .before .before .before .before .before .before .before .before .before .before .before .before .before .before .before .before .write-half in
+    let at-writes-to = c .before .before .before .before .before .before .before .before .before .before .before .before .before .before .before .before .before .writes-to in
+    let at-signed-half = c .before .before .before .before .before .before .before .before .before .before .before .before .before .before .before .before .before .before .before .signed-half in
+    let at-half = c .before .before .before .before .before .before .before .before .before .before .before .before .before .before .before .before .before .before .before .before .half in
+    (rw (at-write-half .ensures, at-writes-to .ensures, handed w16 (at-signed-half .ok) (at-signed-half .ensures), at-half .ensures), (rw (at-write-word .ensures, at-writes-to2 .ensures), (rw (at-write-word2 .ensures, at-writes-to3 .ensures), rw (at-write-word3 .ensures, at-writes-to4 .ensures))))
 
 pub write-spec : {M : Type 1} → statement M
 write-spec =

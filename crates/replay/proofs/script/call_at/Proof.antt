@@ -33,13 +33,23 @@ cut-requires : tie.Need-cut-requires
 cut-requires c κs = search needs
 
 returns : tie.Need-returns
-returns c = as-read (c .before .before .before .before .before .before .before .before .args .h) (c .before .before .before .before .before .before .before .before .args .s .now) (c .before .before .before .before .before .before .before .before .args .at) (c .before .before .before .before .before .before .before .before .pre) (rw (c .cut .ensures, c .before .before .before .before .args-of .ensures, tail-is (c .before .before .before .before .before .before .before .before .args .s .now) (c .before .before .before .before .before .before .before .before .args .at + 1)) (unknown (c .before .before .before .before .before .before .before .before .args .h) (c .before .before .before .before .before .before .before .before .args .s .now) (c .before .before .before .before .before .before .before .before .args .at) (not-true _ (c .before .if1 .taken))))
+returns c =
+    let at-args-of = c .before .before .before .before .args-of in
+    let at-args = c .before .before .before .before .before .before .before .before .args in
+    let at-pre = c .before .before .before .before .before .before .before .before .pre in
+    as-read (at-args .h) (at-args .s .now) (at-args .at) (at-pre) (rw (c .cut .ensures, at-args-of .ensures, tail-is (at-args .s .now) (at-args .at + 1)) (unknown (at-args .h) (at-args .s .now) (at-args .at) (not-true _ (c .before .if1 .taken))))
 
 cut-requires-2 : tie.Need-cut-requires-2
 cut-requires-2 c κs = search needs
 
 returns-2 : tie.Need-returns-2
-returns-2 c = as-read (c .before .before .before .before .before .before .before .before .before .args .h) (c .before .before .before .before .before .before .before .before .before .args .s .now) (c .before .before .before .before .before .before .before .before .before .args .at) (c .before .before .before .before .before .before .before .before .before .pre) (rw (c .cut2 .ensures, c .before .before .before .before .before .args-of .ensures, tail-is (c .before .before .before .before .before .before .before .before .before .args .s .now) (c .before .before .before .before .before .before .before .before .before .args .at + 1)) (short-words (c .before .before .before .before .before .before .before .before .before .args .h) (c .before .before .before .before .before .before .before .before .before .args .s .now) (c .before .before .before .before .before .before .before .before .before .args .at) (not-false _ (c .before .before .if1 .left)) (omega (arith, c .before .before .before .before .size-of .ensures, length-drop (c .before .before .before .before .before .before .before .before .before .args .at + 1) (c .before .before .before .before .before .before .before .before .before .args .s .now)))))
+returns-2 c =
+    let at-if1 = c .before .before .if1 in
+    let at-size-of = c .before .before .before .before .size-of in
+    let at-args-of = c .before .before .before .before .before .args-of in
+    let at-args = c .before .before .before .before .before .before .before .before .before .args in
+    let at-pre = c .before .before .before .before .before .before .before .before .before .pre in
+    as-read (at-args .h) (at-args .s .now) (at-args .at) (at-pre) (rw (c .cut2 .ensures, at-args-of .ensures, tail-is (at-args .s .now) (at-args .at + 1)) (short-words (at-args .h) (at-args .s .now) (at-args .at) (not-false _ (at-if1 .left)) (omega (arith, at-size-of .ensures, length-drop (at-args .at + 1) (at-args .s .now)))))
 
 data-of-requires : tie.Need-data-of-requires
 data-of-requires c κs = search needs
@@ -51,7 +61,14 @@ cut-requires-3 : tie.Need-cut-requires-3
 cut-requires-3 c κs = search needs
 
 returns-3 : tie.Need-returns-3
-returns-3 c = as-read (c .before .before .before .before .before .before .before .before .before .before .before .args .h) (c .before .before .before .before .before .before .before .before .before .before .before .args .s .now) (c .before .before .before .before .before .before .before .before .before .before .before .args .at) (c .before .before .before .before .before .before .before .before .before .before .before .pre) (rw (c .cut3 .ensures, c .before .before .before .before .before .before .before .args-of .ensures, tail-is (c .before .before .before .before .before .before .before .before .before .before .before .args .s .now) (c .before .before .before .before .before .before .before .before .before .before .before .args .at + 1)) (short-data (c .before .before .before .before .before .before .before .before .before .before .before .args .h) (c .before .before .before .before .before .before .before .before .before .before .before .args .s .now) (c .before .before .before .before .before .before .before .before .before .before .before .args .at) (not-false _ (c .before .before .before .before .if1 .left)) (omega (arith, c .before .before .before .before .before .before .size-of .ensures, length-drop (c .before .before .before .before .before .before .before .before .before .before .before .args .at + 1) (c .before .before .before .before .before .before .before .before .before .before .before .args .s .now))) (omega (arith, c .before .before .before .before .before .before .size-of .ensures, rw (tail-is (c .before .before .before .before .before .before .before .before .before .before .before .args .s .now) (c .before .before .before .before .before .before .before .before .before .before .before .args .at + 1)) at (c .before .before .data-of .ensures), length-drop (c .before .before .before .before .before .before .before .before .before .before .before .args .at + 1) (c .before .before .before .before .before .before .before .before .before .before .before .args .s .now)))))
+returns-3 c =
+    let at-data-of = c .before .before .data-of in
+    let at-if1 = c .before .before .before .before .if1 in
+    let at-size-of = c .before .before .before .before .before .before .size-of in
+    let at-args-of = c .before .before .before .before .before .before .before .args-of in
+    let at-args = c .before .before .before .before .before .before .before .before .before .before .before .args in
+    let at-pre = c .before .before .before .before .before .before .before .before .before .before .before .pre in
+    as-read (at-args .h) (at-args .s .now) (at-args .at) (at-pre) (rw (c .cut3 .ensures, at-args-of .ensures, tail-is (at-args .s .now) (at-args .at + 1)) (short-data (at-args .h) (at-args .s .now) (at-args .at) (not-false _ (at-if1 .left)) (omega (arith, at-size-of .ensures, length-drop (at-args .at + 1) (at-args .s .now))) (omega (arith, at-size-of .ensures, rw (tail-is (at-args .s .now) (at-args .at + 1)) at (at-data-of .ensures), length-drop (at-args .at + 1) (at-args .s .now)))))
 
 add-from : tie.Need-add-from
 add-from c = search needs
@@ -63,7 +80,13 @@ add-t12 : tie.Need-add-t12
 add-t12 c = search needs
 
 returns-4 : tie.Need-returns-4
-returns-4 c = as-read (c .before .before .before .before .before .before .before .before .before .before .args .h) (c .before .before .before .before .before .before .before .before .before .before .args .s .now) (c .before .before .before .before .before .before .before .before .before .before .args .at) (c .before .before .before .before .before .before .before .before .before .before .pre) (rw (c .before .before .before .before .before .before .args-of .ensures, c .before .before .before .before .before .size-of .ensures, c .before .data-of .ensures, tail-is (c .before .before .before .before .before .before .before .before .before .before .args .s .now) (c .before .before .before .before .before .before .before .before .before .before .args .at + 1)) (all-there (c .before .before .before .before .before .before .before .before .before .before .args .h) (c .before .before .before .before .before .before .before .before .before .before .args .s .now) (c .before .before .before .before .before .before .before .before .before .before .args .at) (not-false _ (c .before .before .before .if1 .left)) (omega (arith, c .before .before .before .before .before .size-of .ensures, length-drop (c .before .before .before .before .before .before .before .before .before .before .args .at + 1) (c .before .before .before .before .before .before .before .before .before .before .args .s .now))) (omega (arith, c .before .before .before .before .before .size-of .ensures, rw (tail-is (c .before .before .before .before .before .before .before .before .before .before .args .s .now) (c .before .before .before .before .before .before .before .before .before .before .args .at + 1)) at (c .before .data-of .ensures), length-drop (c .before .before .before .before .before .before .before .before .before .before .args .at + 1) (c .before .before .before .before .before .before .before .before .before .before .args .s .now)))))
+returns-4 c =
+    let at-if1 = c .before .before .before .if1 in
+    let at-size-of = c .before .before .before .before .before .size-of in
+    let at-args-of = c .before .before .before .before .before .before .args-of in
+    let at-args = c .before .before .before .before .before .before .before .before .before .before .args in
+    let at-pre = c .before .before .before .before .before .before .before .before .before .before .pre in
+    as-read (at-args .h) (at-args .s .now) (at-args .at) (at-pre) (rw (at-args-of .ensures, at-size-of .ensures, c .before .data-of .ensures, tail-is (at-args .s .now) (at-args .at + 1)) (all-there (at-args .h) (at-args .s .now) (at-args .at) (not-false _ (at-if1 .left)) (omega (arith, at-size-of .ensures, length-drop (at-args .at + 1) (at-args .s .now))) (omega (arith, at-size-of .ensures, rw (tail-is (at-args .s .now) (at-args .at + 1)) at (c .before .data-of .ensures), length-drop (at-args .at + 1) (at-args .s .now)))))
 
 pub call-at-spec : {M : Type 1} → statement M
 call-at-spec =
