@@ -5,3 +5,4 @@ pub mod Patterns
 pub mod Serving
 pub mod Applied
 pub mod Shapes
+pub mod Playing

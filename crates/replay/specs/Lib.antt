@@ -3,3 +3,4 @@ pub mod Header
 pub mod Acts
 pub mod Hash
 pub mod Ops
+pub mod Play

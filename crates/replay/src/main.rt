@@ -1,8 +1,12 @@
 // Replays a trace from standard input over the stage: a line for each op, and at the end the dump.
+ghost use mathlib.Core.Path.{_≡_};
 ghost use Prim.Native.Nat.{_≤_};
 ghost use lib.ListN.{length};
 ghost use Rattle.replay.specs.Header.{Within};
+ghost use Rattle.replay.specs.Ops.{areasOf};
+ghost use Rattle.replay.specs.Play.{portOf, played};
 use rooms::Lengths;
+use stage::State;
 
 mod act;
 mod apply;
@@ -16,8 +20,8 @@ mod show;
 mod slots;
 mod tables;
 
-// Runs the ops of the script over the areas, and dumps what is left.
-fn run(
+// Runs the ops of the script over the areas, with a line for each: the state that is left.
+fn play(
     s: &[u8],
     own: Lengths,
     matrices: &mut [f32],
@@ -30,8 +34,9 @@ fn run(
     words: &mut [u32],
     indices: &mut [u32],
     runs: &mut [u32],
-)
+) -> State
     requires { ⌜ (44 ≤ length (now s)) × (length (now s) ≤ 262144) ⌝ }
+    ensures { λ r. ⌜ portOf r (areasOf (now (matrices .exit)) (now (viewports .exit)) (now (scales .exit)) (now (lights .exit)) (now (lookats .exit)) (now (fogs .exit)) (now (floats .exit)) (now (words .exit)) (now (indices .exit)) (now (runs .exit))) ≡ played (now (s .entry)) own (areasOf (now (matrices .entry)) (now (viewports .entry)) (now (scales .entry)) (now (lights .entry)) (now (lookats .entry)) (now (fogs .entry)) (now (floats .entry)) (now (words .entry)) (now (indices .entry)) (now (runs .entry))) ⌝ }
 {
     let mut lent = own;
     let mut g = apply::unopened();
@@ -67,8 +72,42 @@ fn run(
         at = to;
         i = i + 1;
     }
+    g.state
+}
+
+// Runs the script over the areas, and dumps what is left.
+fn run(
+    s: &[u8],
+    own: Lengths,
+    matrices: &mut [f32],
+    viewports: &mut [f32],
+    scales: &mut [f32],
+    lights: &mut [f32],
+    lookats: &mut [f32],
+    fogs: &mut [i16],
+    floats: &mut [f32],
+    words: &mut [u32],
+    indices: &mut [u32],
+    runs: &mut [u32],
+)
+    requires { ⌜ (44 ≤ length (now s)) × (length (now s) ≤ 262144) ⌝ }
+{
+    let state = play(
+        s,
+        own,
+        matrices,
+        viewports,
+        scales,
+        lights,
+        lookats,
+        fogs,
+        floats,
+        words,
+        indices,
+        runs,
+    );
     dump::write(
-        g.state,
+        state,
         matrices,
         viewports,
         scales,

@@ -1,0 +1,157 @@
+-- `replay::play` meets its contract. Assumes nothing.
+use native.Mathlib.Omega.{arith}
+use Prim.Native.Nat.{_≤_, _-_}
+use lib.ListN.{length}
+use denote.Ref.{now}
+use mathlib.Core.Path.{refl, ap, _∙_}
+use mathlib.Core.Logic.{⊎-elim}
+use borrow.Author.Tests.{not-true, not-false}
+use Rattle.stage.specs.declared.State.{State}
+use Rattle.sequence.specs.Sequence.{Alike}
+use Rattle.replay.specs.declared.ops.Shape.{Shape}
+use Rattle.replay.specs.Script.{callAt}
+use Rattle.replay.specs.Ops.{areasOf}
+use Rattle.replay.specs.Play.{portOf, playFrom}
+use Rattle.replay.proofs.Playing.{Left, all-left, left-behind, ended, cut}
+use borrow.Author.Needs.{needs}
+use Rattle.replay.proofs.play.Statement.{statement}
+use Rattle.replay.proofs.play.Tie as tie
+
+abbrev Inv-loop : tie.InvT-loop
+Inv-loop s matrices₀ viewports₀ scales₀ lights₀ lookats₀ fogs₀ floats₀ words₀ indices₀ runs₀ lent₀ g₀ at₀ i₀ matrices viewports scales lights lookats fogs floats words indices runs lent g at i =
+    (at ≤ length s) × ((i ≤ at) × (Left s at lent (portOf (g .state) (areasOf matrices viewports scales lights lookats fogs floats words indices runs)) (playFrom (length s) s at₀ lent₀ (portOf (g₀ .state) (areasOf matrices₀ viewports₀ scales₀ lights₀ lookats₀ fogs₀ floats₀ words₀ indices₀ runs₀))) × Alike (areasOf matrices viewports scales lights lookats fogs floats words indices runs) (areasOf matrices₀ viewports₀ scales₀ lights₀ lookats₀ fogs₀ floats₀ words₀ indices₀ runs₀)))
+
+abbrev μ-loop : tie.MeasureT-loop
+μ-loop s matrices₀ viewports₀ scales₀ lights₀ lookats₀ fogs₀ floats₀ words₀ indices₀ runs₀ lent₀ g₀ at₀ i₀ matrices viewports scales lights lookats fogs floats words indices runs lent g at i = length s - at
+
+unopened-requires : tie.Need-unopened-requires Inv-loop μ-loop
+unopened-requires c κs = search needs
+
+loop-holds : tie.Need-loop-holds Inv-loop μ-loop
+loop-holds c = (omega arith, (omega arith, (all-left _ _ _ _, record { matrices = refl; viewports = refl; scales = refl; lights = refl; lookats = refl; fogs = refl; floats = refl; words = refl; indices = refl; runs = refl })))
+
+shared-slice-read-shape-of : tie.Need-shared-slice-read-shape-of Inv-loop μ-loop
+shared-slice-read-shape-of c = search needs
+
+shape-of-requires : tie.Need-shape-of-requires Inv-loop μ-loop
+shape-of-requires c κs = search needs
+
+call-at-requires : tie.Need-call-at-requires Inv-loop μ-loop
+call-at-requires c κs = search needs
+
+sub-step : tie.Need-sub-step Inv-loop μ-loop
+sub-step c = search needs
+
+part-step-start : tie.Need-part-step-start Inv-loop μ-loop
+part-step-start c = search needs
+
+part-step-end : tie.Need-part-step-end Inv-loop μ-loop
+part-step-end c = search needs
+
+step-requires : tie.Need-step-requires Inv-loop μ-loop
+step-requires c κs = search needs
+
+lent-after-requires : tie.Need-lent-after-requires Inv-loop μ-loop
+lent-after-requires c κs = search needs
+
+answered-requires : tie.Need-answered-requires Inv-loop μ-loop
+answered-requires c κs = search needs
+
+add-i : tie.Need-add-i Inv-loop μ-loop
+add-i c =
+    let at-call-at = c .before .before .before .before .before .before .before .before .before .before .before .before .before .before .before .before .before .before .before .before .before .before .before .before .before .before .before .before .before .before .before .before .before .before .before .before .call-at in
+    let at-loop = c .before .before .before .before .before .before .before .before .before .before .before .before .before .before .before .before .before .before .before .before .before .before .before .before .before .before .before .before .before .before .before .before .before .before .before .before .before .before .before .before .loop in
+    let at-pre = c .before .before .before .before .before .before .before .before .before .before .before .before .before .before .before .before .before .before .before .before .before .before .before .before .before .before .before .before .before .before .before .before .before .before .before .before .before .before .before .before .before .before .before .before .before .before .before .before .before .before .before .before .pre in
+    record { fits = omega (arith, at-loop .inv .1 .0, at-call-at .ensures .1 .past, at-call-at .ensures .1 .inside, at-pre .1) }
+
+loop-less : tie.Need-loop-less Inv-loop μ-loop
+loop-less c =
+    let at-call-at = c .before .before .before .before .before .before .before .before .before .before .before .before .before .before .before .before .before .before .before .before .before .before .before .before .before .before .before .before .before .before .before .before .before .before .before .before .call-at in
+    omega (arith, at-call-at .ensures .1 .past, at-call-at .ensures .1 .inside)
+
+loop-again : tie.Need-loop-again Inv-loop μ-loop
+loop-again c =
+    let at-step = c .before .before .before .before .before .before .before .before .before .before .before .before .before .before .before .before .before .before .before .before .before .before .step in
+    let at-call = c .before .before .before .before .before .before .before .before .before .before .before .before .before .before .before .before .before .before .before .before .before .before .before .before .before .before .before .before .before .before .before .before .before .before .before .before .call-at in
+    let v = c .before .before .before .before .before .before .before .before .before .before .before .before .before .before .before .before .before .before .before .before .before .before .before .before .before .before .before .before .before .before .before .before .before .before .before .before .before .before .before .before .loop .inv in (
+      at-call .ensures .1 .inside,
+      (
+        omega (arith, at-call .ensures .1 .past, v .1 .0),
+        (
+          left-behind _ _ _ _ _ _ (at-step .result) _ _ (c .before .before .before .before .before .before .before .before .before .before .before .before .before .before .before .before .before .before .before .before .before .before .before .before .before .before .before .before .before .before .before .before .before .before .before .before .before .before .before .loop-test .taken) (at-call .ensures .0 ∙ ap (λ (h : Shape). callAt h (now (c .before .before .before .before .before .before .before .before .before .before .before .before .before .before .before .before .before .before .before .before .before .before .before .before .before .before .before .before .before .before .before .before .before .before .before .before .before .before .before .before .before .before .before .before .before .before .before .before .before .before .before .before .args .s)) (c .before .before .before .before .before .before .before .before .before .before .before .before .before .before .before .before .before .before .before .before .before .before .before .before .before .before .before .before .before .before .before .before .before .before .before .before .before .before .before .before .loop .at)) (c .before .before .before .before .before .before .before .before .before .before .before .before .before .before .before .before .before .before .before .before .before .before .before .before .before .before .before .before .before .before .before .before .before .before .before .before .before .shape-of .ensures)) (not-false _ (c .before .before .before .before .before .before .before .before .before .before .before .before .before .before .before .before .before .before .before .before .before .before .before .before .before .before .before .before .before .before .before .before .before .before .if1 .left)) (at-call .ensures .1 .past) (at-step .ensures) (c .before .before .lent-after .ensures) (v .1 .1 .0),
+          record { matrices = at-step .kept .1 .1 .1 .1 .0 ∙ v .1 .1 .1 .matrices; viewports = at-step .kept .1 .1 .1 .1 .1 .0 ∙ v .1 .1 .1 .viewports; scales = at-step .kept .1 .1 .1 .1 .1 .1 .0 ∙ v .1 .1 .1 .scales; lights = at-step .kept .1 .1 .1 .1 .1 .1 .1 .0 ∙ v .1 .1 .1 .lights; lookats = at-step .kept .1 .1 .1 .1 .1 .1 .1 .1 .0 ∙ v .1 .1 .1 .lookats; fogs = at-step .kept .1 .1 .1 .1 .1 .1 .1 .1 .1 .0 ∙ v .1 .1 .1 .fogs; floats = at-step .kept .1 .1 .1 .1 .1 .1 .1 .1 .1 .1 .0 ∙ v .1 .1 .1 .floats; words = at-step .kept .1 .1 .1 .1 .1 .1 .1 .1 .1 .1 .1 .0 ∙ v .1 .1 .1 .words; indices = at-step .kept .1 .1 .1 .1 .1 .1 .1 .1 .1 .1 .1 .1 .0 ∙ v .1 .1 .1 .indices; runs = at-step .kept .1 .1 .1 .1 .1 .1 .1 .1 .1 .1 .1 .1 .1 .0 ∙ v .1 .1 .1 .runs },
+        ),
+      ),
+    )
+
+same-length : tie.Need-same-length Inv-loop μ-loop
+same-length c = c .before .before .loop .inv .1 .1 .1 .matrices
+
+same-length-2 : tie.Need-same-length-2 Inv-loop μ-loop
+same-length-2 c = c .before .before .loop .inv .1 .1 .1 .viewports
+
+same-length-3 : tie.Need-same-length-3 Inv-loop μ-loop
+same-length-3 c = c .before .before .loop .inv .1 .1 .1 .scales
+
+same-length-4 : tie.Need-same-length-4 Inv-loop μ-loop
+same-length-4 c = c .before .before .loop .inv .1 .1 .1 .lights
+
+same-length-5 : tie.Need-same-length-5 Inv-loop μ-loop
+same-length-5 c = c .before .before .loop .inv .1 .1 .1 .lookats
+
+same-length-6 : tie.Need-same-length-6 Inv-loop μ-loop
+same-length-6 c = c .before .before .loop .inv .1 .1 .1 .fogs
+
+same-length-7 : tie.Need-same-length-7 Inv-loop μ-loop
+same-length-7 c = c .before .before .loop .inv .1 .1 .1 .floats
+
+same-length-8 : tie.Need-same-length-8 Inv-loop μ-loop
+same-length-8 c = c .before .before .loop .inv .1 .1 .1 .words
+
+same-length-9 : tie.Need-same-length-9 Inv-loop μ-loop
+same-length-9 c = c .before .before .loop .inv .1 .1 .1 .indices
+
+same-length-10 : tie.Need-same-length-10 Inv-loop μ-loop
+same-length-10 c = c .before .before .loop .inv .1 .1 .1 .runs
+
+returns : tie.Need-returns Inv-loop μ-loop
+returns c =
+    let l = c .before .before .loop in
+    let a = c .before .before .before .before .before .before .before .before .before .before .before .before .before .before .args in
+    ⊎-elim
+    (λ h. ended _ _ _ _ _ (h .left) (l .inv .1 .1 .0))
+    (λ h. cut _ _ _ _ _ _ (h .3 .ensures .0 ∙ ap (λ (x : Shape). callAt x _ _) (h .2 .ensures)) (not-true _ (h .5 .taken)) (l .inv .1 .1 .0))
+    (c .before .loop-test .came)
+    ∙ ap (λ (x : State). playFrom (length (now (a .s))) (now (a .s)) 44 (a .own) (portOf x (areasOf (now (a .matrices)) (now (a .viewports)) (now (a .scales)) (now (a .lights)) (now (a .lookats)) (now (a .fogs)) (now (a .floats)) (now (a .words)) (now (a .indices)) (now (a .runs))))) (c .before .before .before .unopened .ensures)
+
+pub play-spec : {M : Type 1} → statement M
+play-spec =
+    tie.close
+    (tie.spec
+    Inv-loop
+    μ-loop
+    unopened-requires
+    loop-holds
+    shared-slice-read-shape-of
+    shape-of-requires
+    call-at-requires
+    sub-step
+    part-step-start
+    part-step-end
+    step-requires
+    lent-after-requires
+    answered-requires
+    add-i
+    loop-less
+    loop-again
+    same-length
+    same-length-2
+    same-length-3
+    same-length-4
+    same-length-5
+    same-length-6
+    same-length-7
+    same-length-8
+    same-length-9
+    same-length-10
+    returns)
