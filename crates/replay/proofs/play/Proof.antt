@@ -24,6 +24,25 @@ Inv-loop s matrices₀ viewports₀ scales₀ lights₀ lookats₀ fogs₀ float
 abbrev μ-loop : tie.MeasureT-loop
 μ-loop s matrices₀ viewports₀ scales₀ lights₀ lookats₀ fogs₀ floats₀ words₀ indices₀ runs₀ lent₀ g₀ at₀ i₀ matrices viewports scales lights lookats fogs floats words indices runs lent g at i = length s - at
 
+-- ---- places passed on the way to a later one
+
+abbrev stepped : tie.After-answered Inv-loop μ-loop → tie.After-step Inv-loop μ-loop
+stepped c = c .before .before .before .before .before .before .before .before .before .before .before .before .before .before .before .before .before .before .before .before .before .before
+
+abbrev whole : tie.After-step Inv-loop μ-loop → tie.Else1 Inv-loop μ-loop
+whole c = c .before .before .before .before .before .before .before .before .before .before .before .before
+
+abbrev read : tie.Else1 Inv-loop μ-loop → tie.After-call-at Inv-loop μ-loop
+read c = c .before .before
+
+abbrev tested : tie.After-call-at Inv-loop μ-loop → tie.In-loop Inv-loop μ-loop
+tested c = c .before .before .before
+
+abbrev start : tie.At-loop Inv-loop μ-loop → tie.Start Inv-loop μ-loop
+start c = c .before .before .before .before .before .before .before .before .before .before .before .before
+
+-- ---- the needs
+
 unopened-requires : tie.Need-unopened-requires Inv-loop μ-loop
 unopened-requires c κs = search needs
 
@@ -59,30 +78,25 @@ answered-requires c κs = search needs
 
 add-i : tie.Need-add-i Inv-loop μ-loop
 add-i c =
-    let at-call-at = c .before .before .before .before .before .before .before .before .before .before .before .before .before .before .before .before .before .before .before .before .before .before .before .before .before .before .before .before .before .before .before .before .before .before .before .before .call-at in
-    let at-loop = c .before .before .before .before .before .before .before .before .before .before .before .before .before .before .before .before .before .before .before .before .before .before .before .before .before .before .before .before .before .before .before .before .before .before .before .before .before .before .before .before .loop in
-    let at-pre = c .before .before .before .before .before .before .before .before .before .before .before .before .before .before .before .before .before .before .before .before .before .before .before .before .before .before .before .before .before .before .before .before .before .before .before .before .before .before .before .before .before .before .before .before .before .before .before .before .before .before .before .before .pre in
-    record { fits = omega (arith, at-loop .inv .1 .0, at-call-at .ensures .1 .past, at-call-at .ensures .1 .inside, at-pre .1) }
+    let k = read (whole (stepped c)) in
+    let o = tested k .before in
+    record { fits = omega (arith, o .loop .inv .1 .0, k .call-at .ensures .1 .past, k .call-at .ensures .1 .inside, start o .pre .1) }
 
 loop-less : tie.Need-loop-less Inv-loop μ-loop
 loop-less c =
-    let at-call-at = c .before .before .before .before .before .before .before .before .before .before .before .before .before .before .before .before .before .before .before .before .before .before .before .before .before .before .before .before .before .before .before .before .before .before .before .before .call-at in
-    omega (arith, at-call-at .ensures .1 .past, at-call-at .ensures .1 .inside)
+    let k = read (whole (stepped c)) in
+    omega (arith, k .call-at .ensures .1 .past, k .call-at .ensures .1 .inside)
 
 loop-again : tie.Need-loop-again Inv-loop μ-loop
 loop-again c =
-    let at-step = c .before .before .before .before .before .before .before .before .before .before .before .before .before .before .before .before .before .before .before .before .before .before .step in
-    let at-call = c .before .before .before .before .before .before .before .before .before .before .before .before .before .before .before .before .before .before .before .before .before .before .before .before .before .before .before .before .before .before .before .before .before .before .before .before .call-at in
-    let v = c .before .before .before .before .before .before .before .before .before .before .before .before .before .before .before .before .before .before .before .before .before .before .before .before .before .before .before .before .before .before .before .before .before .before .before .before .before .before .before .before .loop .inv in (
-      at-call .ensures .1 .inside,
-      (
-        omega (arith, at-call .ensures .1 .past, v .1 .0),
-        (
-          left-behind _ _ _ _ _ _ (at-step .result) _ _ (c .before .before .before .before .before .before .before .before .before .before .before .before .before .before .before .before .before .before .before .before .before .before .before .before .before .before .before .before .before .before .before .before .before .before .before .before .before .before .before .loop-test .taken) (at-call .ensures .0 ∙ ap (λ (h : Shape). callAt h (now (c .before .before .before .before .before .before .before .before .before .before .before .before .before .before .before .before .before .before .before .before .before .before .before .before .before .before .before .before .before .before .before .before .before .before .before .before .before .before .before .before .before .before .before .before .before .before .before .before .before .before .before .before .args .s)) (c .before .before .before .before .before .before .before .before .before .before .before .before .before .before .before .before .before .before .before .before .before .before .before .before .before .before .before .before .before .before .before .before .before .before .before .before .before .before .before .before .loop .at)) (c .before .before .before .before .before .before .before .before .before .before .before .before .before .before .before .before .before .before .before .before .before .before .before .before .before .before .before .before .before .before .before .before .before .before .before .before .before .shape-of .ensures)) (not-false _ (c .before .before .before .before .before .before .before .before .before .before .before .before .before .before .before .before .before .before .before .before .before .before .before .before .before .before .before .before .before .before .before .before .before .before .if1 .left)) (at-call .ensures .1 .past) (at-step .ensures) (c .before .before .lent-after .ensures) (v .1 .1 .0),
-          record { matrices = at-step .kept .1 .1 .1 .1 .0 ∙ v .1 .1 .1 .matrices; viewports = at-step .kept .1 .1 .1 .1 .1 .0 ∙ v .1 .1 .1 .viewports; scales = at-step .kept .1 .1 .1 .1 .1 .1 .0 ∙ v .1 .1 .1 .scales; lights = at-step .kept .1 .1 .1 .1 .1 .1 .1 .0 ∙ v .1 .1 .1 .lights; lookats = at-step .kept .1 .1 .1 .1 .1 .1 .1 .1 .0 ∙ v .1 .1 .1 .lookats; fogs = at-step .kept .1 .1 .1 .1 .1 .1 .1 .1 .1 .0 ∙ v .1 .1 .1 .fogs; floats = at-step .kept .1 .1 .1 .1 .1 .1 .1 .1 .1 .1 .0 ∙ v .1 .1 .1 .floats; words = at-step .kept .1 .1 .1 .1 .1 .1 .1 .1 .1 .1 .1 .0 ∙ v .1 .1 .1 .words; indices = at-step .kept .1 .1 .1 .1 .1 .1 .1 .1 .1 .1 .1 .1 .0 ∙ v .1 .1 .1 .indices; runs = at-step .kept .1 .1 .1 .1 .1 .1 .1 .1 .1 .1 .1 .1 .1 .0 ∙ v .1 .1 .1 .runs },
-        ),
-      ),
-    )
+    let x = stepped c in
+    let w = whole x in
+    let k = read w in
+    let o = tested k .before in
+    let v = o .loop .inv in
+    let e = k .call-at .ensures .0 ∙ ap (λ (h : Shape). callAt h (now (start o .args .s)) (o .loop .at)) (k .before .shape-of .ensures) in
+    let l = left-behind _ _ _ _ _ _ (x .step .result) _ _ (tested k .loop-test .taken) e (not-false _ (w .if1 .left)) (k .call-at .ensures .1 .past) (x .step .ensures) (c .before .before .lent-after .ensures) (v .1 .1 .0) in
+    (k .call-at .ensures .1 .inside, (omega (arith, k .call-at .ensures .1 .past, v .1 .0), (l, record { matrices = x .step .kept .1 .1 .1 .1 .0 ∙ v .1 .1 .1 .matrices; viewports = x .step .kept .1 .1 .1 .1 .1 .0 ∙ v .1 .1 .1 .viewports; scales = x .step .kept .1 .1 .1 .1 .1 .1 .0 ∙ v .1 .1 .1 .scales; lights = x .step .kept .1 .1 .1 .1 .1 .1 .1 .0 ∙ v .1 .1 .1 .lights; lookats = x .step .kept .1 .1 .1 .1 .1 .1 .1 .1 .0 ∙ v .1 .1 .1 .lookats; fogs = x .step .kept .1 .1 .1 .1 .1 .1 .1 .1 .1 .0 ∙ v .1 .1 .1 .fogs; floats = x .step .kept .1 .1 .1 .1 .1 .1 .1 .1 .1 .1 .0 ∙ v .1 .1 .1 .floats; words = x .step .kept .1 .1 .1 .1 .1 .1 .1 .1 .1 .1 .1 .0 ∙ v .1 .1 .1 .words; indices = x .step .kept .1 .1 .1 .1 .1 .1 .1 .1 .1 .1 .1 .1 .0 ∙ v .1 .1 .1 .indices; runs = x .step .kept .1 .1 .1 .1 .1 .1 .1 .1 .1 .1 .1 .1 .1 .0 ∙ v .1 .1 .1 .runs })))
 
 same-length : tie.Need-same-length Inv-loop μ-loop
 same-length c = c .before .before .loop .inv .1 .1 .1 .matrices
@@ -117,7 +131,7 @@ same-length-10 c = c .before .before .loop .inv .1 .1 .1 .runs
 returns : tie.Need-returns Inv-loop μ-loop
 returns c =
     let l = c .before .before .loop in
-    let a = c .before .before .before .before .before .before .before .before .before .before .before .before .before .before .args in
+    let a = start (c .before .before) .args in
     ⊎-elim
     (λ h. ended _ _ _ _ _ (h .left) (l .inv .1 .1 .0))
     (λ h. cut _ _ _ _ _ _ (h .3 .ensures .0 ∙ ap (λ (x : Shape). callAt x _ _) (h .2 .ensures)) (not-true _ (h .5 .taken)) (l .inv .1 .1 .0))
