@@ -3,6 +3,7 @@ use mathlib.Core.Path.{_≡_, refl}
 use mathlib.Core.List.{[]}
 use Rattle.decide.specs.Family.{Family}
 use Rattle.stage.specs.declared.State.{State}
+use Rattle.stage.specs.With.{state, modesOf, matricesOf}
 use Rattle.sequence.specs.Sequence.{Command, matrix, force, pop, viewport, geometry, texture, fog, number, light, lookat, microcode, load, cull, depth, modify, draw, ink}
 use Rattle.finished.specs.Bench.{Bench, settles, corner, act}
 
@@ -11,41 +12,16 @@ abbrev pub blanked : State → State
 blanked s =
     let l = s .lights in
     let o = s .lookat in
-    record {
-      opened = s .opened;
-      microcode = s .microcode;
-      geometry = s .geometry;
-      fogmul = s .fogmul;
-      fogoff = s .fogoff;
-      depth = s .depth;
-      stack = s .stack;
-      projection = s .projection;
-      combined = s .combined;
-      defined = s .defined;
+    state (modesOf s) (matricesOf s)
+    (record {
       viewport = s .viewport;
       texture = s .texture;
-      lights = record {
-        number = l .number;
-        directions = l .directions;
-        colours = l .colours;
-        ambient = l .ambient;
-        changed = l .changed;
-        folded = l .folded;
-        top = l .top;
-        first = 0;
-      };
+      lights = record { number = l .number; directions = l .directions; colours = l .colours; ambient = l .ambient; changed = l .changed; folded = l .folded; top = l .top; first = 0 };
       lookat = record { axes = o .axes; changed = o .changed; folded = o .folded; top = o .top; place = 0 };
       counts = record { matrices = 0; viewports = 0; scales = 0; lights = 0; lookats = 0; fogs = 0; rows = 0; indices = 0; runs = 0 };
       unit = 0;
-      row = [];
-      ever = [];
-      loaded = [];
-      drawn = [];
-      coded = [];
-      code = [];
-      deep = [];
-      z = [];
-    }
+    })
+    (record { row = []; ever = []; loaded = []; drawn = []; coded = []; code = []; deep = []; z = [] })
 
 pub blind : (f : Family) (c : Command) (s t : State) (h : Bench) → act f c (blanked s) (blanked t) h ≡ act f c s t h
 unfolding act settles corner

@@ -7,7 +7,7 @@ use Rattle.decide.specs.Append.{final}
 use Rattle.triangle.specs.Run.{longer}
 use Rattle.stage.specs.declared.State.{State}
 use Rattle.stage.specs.Plan.{Edit, keep, grow, patch, Row, Edits, Plan, refuse, does, pick}
-use Rattle.stage.specs.With.{withRows, withDrawn, withSlots}
+use Rattle.stage.specs.With.{withRow, withLoaded, withDrawn}
 use Rattle.stage.specs.Draw.{mark}
 use Rattle.sequence.specs.Sequence.{matrix, force, pop, viewport, geometry, texture, fog, number, light, lookat, microcode, load, cull, depth, modify, draw, ink, Book, Machine}
 
@@ -68,7 +68,7 @@ unfoldable pub inPlace : Book → Rules
 inPlace k =
     record {
       load = λ first. asWas;
-      modify = λ slot t e. does [] (withRows t (k .state .row) (t .drawn)) (withRowEdit e (over (getD (k .state .row) slot 0) (e .rows)));
+      modify = λ slot t e. does [] (withRow t (k .state .row)) (withRowEdit e (over (getD (k .state .row) slot 0) (e .rows)));
       draw = λ a b c. asWas;
       microcode = asWas;
     }
@@ -80,7 +80,7 @@ keepsLoaded k =
       load = λ first. asWas;
       modify = λ slot. asWas;
       draw = λ a b c. asWas;
-      microcode = λ t e. does [] (withSlots t (t .row) (t .ever) (k .state .loaded) (t .drawn) (t .coded) (t .code) (t .deep) (t .z)) e;
+      microcode = λ t e. does [] (withLoaded t (k .state .loaded)) e;
     }
 
 -- 3. a draw marks two slots
@@ -97,7 +97,7 @@ marksTwo k =
 unfoldable pub sharesRow : Book → Rules
 sharesRow k =
     record {
-      load = λ first t e. does [] (withRows t (set (t .row) (first + 1) (getD (t .row) first 0)) (t .drawn)) e;
+      load = λ first t e. does [] (withRow t (set (t .row) (first + 1) (getD (t .row) first 0))) e;
       modify = λ slot. asWas;
       draw = λ a b c. asWas;
       microcode = asWas;

@@ -13,11 +13,11 @@ use Rattle.decide.specs.Stack.{made, pushed, popped}
 use Rattle.layout.specs.Layout.{matrixAt}
 use Rattle.matrix.specs.Math.{times, rows, laid}
 use Rattle.stage.specs.declared.State.{State}
-use Rattle.stage.specs.Plan.{Plan, refuse, does, Edits, keep, grow, Row, pick, untouched, advance}
-use Rattle.stage.specs.With.{withCounts, withModel, withProjection}
+use Rattle.stage.specs.Plan.{Plan, refuse, does, Edit, Edits, keep, grow, Row, pick, advance}
+use Rattle.stage.specs.With.{withCounts, withModel, withProjection, withCombined}
 use Rattle.stage.specs.Matrices.{edits1, top, combine, turned}
 use Rattle.sequence.specs.Sequence.{Command, matrix, force, pop, Book, plan}
-use Rattle.sequence.proofs.Turn.{edited, enter}
+use Rattle.sequence.proofs.Turn.{edit, edited, enter}
 use Rattle.sequence.proofs.Counted.{counted-then}
 use Rattle.sequence.proofs.Accepts.{Accepted, on-combine, on-matrix, on-force, on-pop}
 use Rattle.original.specs.Math.{Mat4, mul4}
@@ -72,94 +72,40 @@ abbrev pub withMatrices : World → Matrices → World
 withMatrices w m = with-rsp w (with-matrices (w .rsp) m)
 
 module _ {D : Bool → Bool → Type 0} {G : ℕ → ℕ → Type 0} {P : List Float → List (List Float) → Viewports → Type 0} {X : ℕ → List (List Float) → Texcoords → Type 0} {R : List Row → Columns → Type 0} {k : Book} {w : World} (N : Near D G P X R k w) where
-  -- a new combined matrix, on both sides
-  combine-agrees : (mvp : Mat4) (v : List Float) → v ≡ laid mvp
-      → Accepted (λ vs t e. (vs ≡ []) × Near _≡_ G P X R (enter t e k) (withMatrices w (combined-by mvp (w .rsp .matrices)))) (combine (k .state) (k .matrices) v)
-  unfolding combined-by
-  combine-agrees mvp v q =
-      on-combine _ (k .state) (k .matrices) v
-      (λ e. (
-        refl,
-        record {
-          count = counted-then k (k .state) (edits1 keep) (N .count);
-          microcode = N .microcode;
-          texture = N .texture;
-          small = N .small;
-          fogmul = N .fogmul;
-          fogoff = N .fogoff;
-          matrices = rw q (combined-same (N .matrices) mvp (rw q at e));
-          defined = refl;
-          geometry = N .geometry;
-          view = N .view;
-          lights = N .lights;
-          lookat = N .lookat;
-          slots = N .slots;
-          scales = N .scales;
-          rows = N .rows;
-          light-table = N .light-table;
-          lookat-table = N .lookat-table;
-          fog-table = N .fog-table;
-          fog-pairs = N .fog-pairs;
-          indices = N .indices;
-          runs = N .runs;
-        },
-      ))
-      (λ e _. (
-        refl,
-        record {
-          count = counted-then k (k .state) (edits1 (grow (v ∷ []))) (N .count);
-          microcode = N .microcode;
-          texture = N .texture;
-          small = N .small;
-          fogmul = N .fogmul;
-          fogoff = N .fogoff;
-          matrices = rw q (combined-new (N .matrices) mvp (rw q at e));
-          defined = refl;
-          geometry = N .geometry;
-          view = N .view;
-          lights = N .lights;
-          lookat = N .lookat;
-          slots = N .slots;
-          scales = N .scales;
-          rows = N .rows;
-          light-table = N .light-table;
-          lookat-table = N .lookat-table;
-          fog-table = N .fog-table;
-          fog-pairs = N .fog-pairs;
-          indices = N .indices;
-          runs = N .runs;
-        },
-      ))
-
-  -- the two sides with other matrices, of which nothing is appended yet
-  turned-near : (s : State) (m : Matrices) → s ≡ withProjection (withModel (k .state) (s .depth) (s .stack)) (s .projection) → m .mvp-valid ≡ w .rsp .matrices .mvp-valid
-      → MatrixSame (s .depth) (s .stack) (s .projection) (k .state .combined) (k .matrices .used) m → Near D G P X R (withState k s) (withMatrices w m)
-  turned-near s m e v M =
-      subst (λ (u : State). Near D G P X R (withState k u) (withMatrices w m)) (sym e)
-      (
+  -- other matrices on both sides, and what table 1 gets; all else stays
+  matrices-near : {D′ : Bool → Bool → Type 0} {d : ℕ} {st p c : List Float} {b : Bool} {m : Matrices} (e : Edit (List Float)) → MatrixSame d st p c (edit e (k .matrices .used)) m → D′ b (m .mvp-valid)
+      → Near D′ G P X R (enter (withCombined (withProjection (withModel (k .state) d st) p) c b) (edits1 e) k) (withMatrices w m)
+  matrices-near e same defined =
       record {
-        count = N .count;
-        microcode = N .microcode;
-        texture = N .texture;
-        small = N .small;
-        fogmul = N .fogmul;
-        fogoff = N .fogoff;
-        matrices = M;
-        defined = rw v (N .defined);
-        geometry = N .geometry;
+        count = counted-then k (k .state) (edits1 e) (N .count);
+        settings = N .settings;
+        matrices = same;
+        defined = defined;
         view = N .view;
         lights = N .lights;
         lookat = N .lookat;
         slots = N .slots;
         scales = N .scales;
         rows = N .rows;
-        light-table = N .light-table;
-        lookat-table = N .lookat-table;
-        fog-table = N .fog-table;
-        fog-pairs = N .fog-pairs;
-        indices = N .indices;
-        runs = N .runs;
-      })
+        recorded = N .recorded;
+      }
+
+module _ {D : Bool → Bool → Type 0} {G : ℕ → ℕ → Type 0} {P : List Float → List (List Float) → Viewports → Type 0} {X : ℕ → List (List Float) → Texcoords → Type 0} {R : List Row → Columns → Type 0} {k : Book} {w : World} (N : Near D G P X R k w) where
+  -- a new combined matrix, on both sides
+  combine-agrees : (mvp : Mat4) (v : List Float) → v ≡ laid mvp
+      → Accepted (λ vs t e. (vs ≡ []) × Near _≡_ G P X R (enter t e k) (withMatrices w (combined-by mvp (w .rsp .matrices)))) (combine (k .state) (k .matrices) v)
+  unfolding combined-by
+  combine-agrees mvp v q =
+      on-combine _ (k .state) (k .matrices) v
+      (λ e. (refl, matrices-near N keep (rw q (combined-same (N .matrices) mvp (rw q at e))) refl))
+      (λ e _. (refl, matrices-near N (grow (v ∷ [])) (rw q (combined-new (N .matrices) mvp (rw q at e))) refl))
+
+  -- the two sides with other matrices, of which nothing is appended yet
+  turned-near : (s : State) (m : Matrices) → s ≡ withProjection (withModel (k .state) (s .depth) (s .stack)) (s .projection) → m .mvp-valid ≡ w .rsp .matrices .mvp-valid
+      → MatrixSame (s .depth) (s .stack) (s .projection) (k .state .combined) (k .matrices .used) m → Near D G P X R (withState k s) (withMatrices w m)
+  turned-near s m e v M =
+      subst (λ (u : State). Near D G P X R (withState k u) (withMatrices w m)) (sym e)
+      (matrices-near N keep M (rw v (N .defined)))
 
 -- ---- the commands
 
@@ -278,32 +224,7 @@ module _ {D : Bool → Bool → Type 0} {G : ℕ → ℕ → Type 0} {P : List F
   pop-agrees weaker count =
       on-pop _ (k .state) (k .matrices) count
       (λ q.
-      rw (tested ∙ q) (
-        refl,
-        record {
-          count = counted-then k (k .state) untouched (N .count);
-          microcode = N .microcode;
-          texture = N .texture;
-          small = N .small;
-          fogmul = N .fogmul;
-          fogoff = N .fogoff;
-          matrices = N .matrices;
-          defined = N .defined;
-          geometry = N .geometry;
-          view = N .view;
-          lights = N .lights;
-          lookat = N .lookat;
-          slots = N .slots;
-          scales = N .scales;
-          rows = N .rows;
-          light-table = N .light-table;
-          lookat-table = N .lookat-table;
-          fog-table = N .fog-table;
-          fog-pairs = N .fog-pairs;
-          indices = N .indices;
-          runs = N .runs;
-        },
-      ))
+      rw (tested ∙ q) (refl, N))
       (λ q s z.
       subst (λ (u : State). Accepted (λ vs t e. Agrees (Near D G P X R) vs (enter t e k) (execute (pop count) w)) (combine u (k .matrices) (laid (times (top u) (rows (u .projection) 0))))) (sym z)
       (accepted-map _ _ (λ vs t e. weaken vs (enter t e k) (execute (pop count) w))
@@ -321,30 +242,5 @@ module _ {D : Bool → Bool → Type 0} {G : ℕ → ℕ → Type 0} {P : List F
       tested = ap₂ eqb same-size (sym (N .matrices .depth))
 
       weaken : (vs : List ℕ) (b : Book) (r : Result Went) → Agrees (Near _≡_ G P X R) vs b r → Agrees (Near D G P X R) vs b r
-      weaken vs b (Ok g) a = (
-        a .0,
-        record {
-          count = a .1 .count;
-          microcode = a .1 .microcode;
-          texture = a .1 .texture;
-          small = a .1 .small;
-          fogmul = a .1 .fogmul;
-          fogoff = a .1 .fogoff;
-          matrices = a .1 .matrices;
-          defined = weaker _ _ (a .1 .defined);
-          geometry = a .1 .geometry;
-          view = a .1 .view;
-          lights = a .1 .lights;
-          lookat = a .1 .lookat;
-          slots = a .1 .slots;
-          scales = a .1 .scales;
-          rows = a .1 .rows;
-          light-table = a .1 .light-table;
-          lookat-table = a .1 .lookat-table;
-          fog-table = a .1 .fog-table;
-          fog-pairs = a .1 .fog-pairs;
-          indices = a .1 .indices;
-          runs = a .1 .runs;
-        },
-      )
+      weaken vs b (Ok g) a = (a .0, matrices-near (a .1) keep (a .1 .matrices) (weaker _ _ (a .1 .defined)))
       weaken vs b (Err d) a = a

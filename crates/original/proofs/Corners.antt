@@ -53,10 +53,10 @@ module _ {o : Offsets} {k : Book} {w : World} (S : Same o k w) where
         viewport = (meets-at (S .view .table) (word 2 r) a ∙ List·getD-map joined (w .rsp .viewports .viewport-table) _ ([], [])) i;
         scale = (meets-at (S .scales .table) (word 3 r) b ∙ fours-at (w .rsp .texcoords .texcoord-table) (w .rsp .texcoords .texgen-scale-table) (S .scales .beside) (over (o .port3) (o .rust3) (word 3 r))) i;
         colour = word 4 r;
-        lights = (ap (λ t. part t (word 5 r) (word 6 r)) (S .light-table) ∙ map-part joined (w .scene .lights-table) (word 5 r) (word 6 r)) i;
+        lights = (ap (λ t. part t (word 5 r) (word 6 r)) (S .recorded .light-table) ∙ map-part joined (w .scene .lights-table) (word 5 r) (word 6 r)) i;
         texgen = word 7 r;
-        fog = fogShown (S .fog-table i) (word 8 r);
-        lookat = pick (eqb (word 7 r) 0) none (some ((ap (λ t. getD t (word 9 r) []) (S .lookat-table) ∙ List·getD-map joined (w .scene .lookat-table) (word 9 r) ([], [])) i));
+        fog = fogShown (S .recorded .fog-table i) (word 8 r);
+        lookat = pick (eqb (word 7 r) 0) none (some ((ap (λ t. getD t (word 9 r) []) (S .recorded .lookat-table) ∙ List·getD-map joined (w .scene .lookat-table) (word 9 r) ([], [])) i));
       }
 
   pub corners-same : CornersSame k w

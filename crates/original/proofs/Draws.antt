@@ -29,7 +29,6 @@ use Rattle.original.specs.Relation.{SlotsSame, runNumbers, Near}
 use Rattle.original.specs.Domain.{Agrees}
 use Rattle.original.proofs.Alike.{cull-both-same, cull-front-same, cull-some-same}
 use Rattle.original.proofs.Stacks.{getD-map, map-snoc}
-use Rattle.original.proofs.Tests.{unchanged}
 
 -- ---- runs
 
@@ -137,32 +136,22 @@ pub draw-agrees : {D : Bool → Bool → Type 0} {P : List Float → List (List 
 unfolding plan execute draw-tri
 draw-agrees {D} {P} {X} {R} {k} {w} N a b c material mode colour prim =
     on-draw _ f3dex2 256 (k .state) (k .indices) (k .runs) a b c (material ∷ mode ∷ colour ∷ prim ∷ [])
-    (λ e. rw (sides ∙ e) (refl, unchanged N))
+    (λ e. rw (sides ∙ e) (refl, N))
     (λ e _ _ _ _.
     rw (sides ∙ e) (
       refl,
       record {
         count = counted-then k (k .state) (edits89 (grow (triangle f3dex2 (k .state) a b c)) (runEdit (k .runs .used) (length (k .indices .used)) (settings (material ∷ mode ∷ colour ∷ prim ∷ []) (culls f3dex2 (k .state .geometry)) (k .state .microcode)))) (N .count);
-        microcode = N .microcode;
-        texture = N .texture;
-        small = N .small;
-        fogmul = N .fogmul;
-        fogoff = N .fogoff;
+        settings = N .settings;
         matrices = N .matrices;
         defined = N .defined;
-        geometry = N .geometry;
         view = N .view;
         lights = N .lights;
         lookat = N .lookat;
         slots = marked;
         scales = N .scales;
         rows = N .rows;
-        light-table = N .light-table;
-        lookat-table = N .lookat-table;
-        fog-table = N .fog-table;
-        fog-pairs = N .fog-pairs;
-        indices = indexed;
-        runs = run;
+        recorded = record { light-table = N .recorded .light-table; lookat-table = N .recorded .lookat-table; fog-table = N .recorded .fog-table; fog-pairs = N .recorded .fog-pairs; indices = indexed; runs = run };
       },
     ))
   where
@@ -170,13 +159,13 @@ draw-agrees {D} {P} {X} {R} {k} {w} N a b c material mode colour prim =
     g = w .rsp .geom
 
     sides : eqb (bitAnd (w .rsp .geom) g-cull-both) g-cull-both ≡ both f3dex2 (k .state .geometry)
-    sides = cull-both-same (w .rsp .geom) ∙ ap (both f3dex2) (sym (N .geometry))
+    sides = cull-both-same (w .rsp .geom) ∙ ap (both f3dex2) (sym (N .settings .geometry))
 
     front : eqb (bitAnd (w .rsp .geom) g-cull-both) g-cull-front ≡ swaps f3dex2 (k .state .geometry)
-    front = cull-front-same (w .rsp .geom) ∙ ap (swaps f3dex2) (sym (N .geometry))
+    front = cull-front-same (w .rsp .geom) ∙ ap (swaps f3dex2) (sym (N .settings .geometry))
 
     some-side : not (eqb (bitAnd (w .rsp .geom) g-cull-both) 0) ≡ culls f3dex2 (k .state .geometry)
-    some-side = cull-some-same (w .rsp .geom) ∙ ap (culls f3dex2) (sym (N .geometry))
+    some-side = cull-some-same (w .rsp .geom) ∙ ap (culls f3dex2) (sym (N .settings .geometry))
 
     marked : SlotsSame (k .state .row) (k .state .loaded) (mark (k .state .drawn) (a ∷ b ∷ c ∷ [])) (k .state .coded) (k .state .code) (k .state .deep) (k .state .z)
         (record { cache-global-index = w .rsp .slots .cache-global-index; loaded = w .rsp .slots .loaded; clip-codes = w .rsp .slots .clip-codes; screen-z = w .rsp .slots .screen-z; used = set (set (set (w .rsp .slots .used) a true) b true) c true })
@@ -187,17 +176,17 @@ draw-agrees {D} {P} {X} {R} {k} {w} N a b c material mode colour prim =
     indexed : k .indices .used ++ triangle f3dex2 (k .state) a b c
         ≡ map (λ (i : ℕ). i ∷ []) (w .scene .indices ++ getD (w .rsp .slots .cache-global-index) (cond (eqb (bitAnd (w .rsp .geom) g-cull-both) g-cull-front) c a) 0 ∷ getD (w .rsp .slots .cache-global-index) b 0 ∷ getD (w .rsp .slots .cache-global-index) (cond (eqb (bitAnd (w .rsp .geom) g-cull-both) g-cull-front) a c) 0 ∷ [])
     indexed =
-        rw (three-more, front, ← (N .slots .row), ← (N .indices))
+        rw (three-more, front, ← (N .slots .row), ← (N .recorded .indices))
         (ap (λ (t : List (List ℕ)). k .indices .used ++ t) (turned-same (k .state .row) (swaps f3dex2 (k .state .geometry)) a b c))
 
     six : settings (material ∷ mode ∷ colour ∷ prim ∷ []) (culls f3dex2 (k .state .geometry)) (k .state .microcode) ≡ material ∷ mode ∷ colour ∷ prim ∷ bit (not (eqb (bitAnd (w .rsp .geom) g-cull-both) 0)) ∷ bit (is-non (w .rsp .microcode)) ∷ []
-    six = rw (some-side, N .microcode, non-same (w .rsp .microcode))
+    six = rw (some-side, N .settings .microcode, non-same (w .rsp .microcode))
 
     run : edit (runEdit (k .runs .used) (length (k .indices .used)) (settings (material ∷ mode ∷ colour ∷ prim ∷ []) (culls f3dex2 (k .state .geometry)) (k .state .microcode))) (k .runs .used)
         ≡ map runNumbers (runs-then (λ (q : DrawRun). coalesces q (not (eqb (bitAnd (w .rsp .geom) g-cull-both) 0)) (is-non (w .rsp .microcode)) material mode colour prim)
         (record { material-index = material; render-mode-index = mode; fog-color = colour; prim-depth = prim; cull = not (eqb (bitAnd (w .rsp .geom) g-cull-both) 0); unclipped-depth = is-non (w .rsp .microcode); index-count = 3; index-start = length (w .scene .indices) })
         (w .scene .draw-runs))
     run =
-        rw (six, N .runs, N .indices, length-map (w .scene .indices) (λ (i : ℕ). i ∷ []))
+        rw (six, N .recorded .runs, N .recorded .indices, length-map (w .scene .indices) (λ (i : ℕ). i ∷ []))
         (runs-same _ _ (w .scene .draw-runs) _ (length (w .scene .indices)) (omega arith)
         (λ r. settings-same r (not (eqb (bitAnd (w .rsp .geom) g-cull-both) 0)) (is-non (w .rsp .microcode)) material mode colour prim) refl)

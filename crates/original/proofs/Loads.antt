@@ -22,7 +22,7 @@ use Rattle.stage.specs.declared.State.{State}
 use Rattle.stage.specs.declared.load.Settled.{Settled}
 use Rattle.stage.specs.Plan.{Row, pick, counted}
 use Rattle.stage.specs.Matrices.{top}
-use Rattle.stage.specs.With.{withSlots}
+use Rattle.stage.specs.With.{withSlots, slotsOf}
 use Rattle.stage.specs.Load.{onlyIf, lightsThen, lookatThen, settled, settledState, sharedBy, rowOf, loadEdits}
 use Rattle.stage.specs.Rows.{fillSlot, fillSlots}
 use Rattle.sequence.specs.Sequence.{load, Book, loadOf, plan}
@@ -136,7 +136,7 @@ module _ {a b u : ℕ} {t : List (List Float)} {x : Texcoords} (S : ScaleSame a 
 
 -- filling slots changes the slots alone
 filled-is : (vs : List Vertex) (u : State) (m : List (List Float)) (e : Shared) (k r : ℕ) → let t = fillSlots u m e k r vs in
-    t ≡ withSlots u (t .row) (t .ever) (t .loaded) (t .drawn) (t .coded) (t .code) (t .deep) (t .z)
+    t ≡ withSlots u (slotsOf t)
 unfolding fillSlots fillSlot
 filled-is [] u m e k r = refl
 filled-is (v ∷ vs) u m e k r = filled-is vs (fillSlot u k r (slotOf m e v)) m e (k + 1) (r + 1)
@@ -181,19 +181,19 @@ module _ {X : ℕ → List (List Float) → Texcoords → Type 0} {R : List Row 
   top-then = ap laid (top-same matrices-then) ∙ laid-again (mv-top m)
 
   lit-same : lit f3dex2 (k .state .geometry) ≡ has (w .rsp .geom) g-lighting
-  lit-same = ap (lit f3dex2) (N .geometry) ∙ sym (has-lighting (w .rsp .geom))
+  lit-same = ap (lit f3dex2) (N .settings .geometry) ∙ sym (has-lighting (w .rsp .geom))
 
   mode-same : texgenMode f3dex2 (k .state .geometry) ≡ texgen-of (has (w .rsp .geom) g-lighting) (w .rsp .geom)
-  mode-same = ap (texgenMode f3dex2) (N .geometry) ∙ sym (texgen-same (w .rsp .geom))
+  mode-same = ap (texgenMode f3dex2) (N .settings .geometry) ∙ sym (texgen-same (w .rsp .geom))
 
   foggy-same : flag (f3dex2 .fog) (k .state .geometry) ≡ has (w .rsp .geom) g-fog-geom
-  foggy-same = ap (flag (f3dex2 .fog)) (N .geometry) ∙ sym (has-fog (w .rsp .geom))
+  foggy-same = ap (flag (f3dex2 .fog)) (N .settings .geometry) ∙ sym (has-fog (w .rsp .geom))
 
   light-count : k .state .counts .lights ≡ length (w .scene .lights-table)
-  light-count = sym (N .count .lights) ∙ ap length (N .light-table) ∙ length-map (w .scene .lights-table) joined
+  light-count = sym (N .count .lights) ∙ ap length (N .recorded .light-table) ∙ length-map (w .scene .lights-table) joined
 
   look-count : k .state .counts .lookats ≡ length (w .scene .lookat-table)
-  look-count = sym (N .count .lookats) ∙ ap length (N .lookat-table) ∙ length-map (w .scene .lookat-table) joined
+  look-count = sym (N .count .lookats) ∙ ap length (N .recorded .lookat-table) ∙ length-map (w .scene .lookat-table) joined
 
   lights-now : LightsSame (lightsThen d (k .state)) (lights-then (has (w .rsp .geom) g-lighting) m (length (w .scene .lights-table)) (w .rsp .lighting))
   unfolding settled
@@ -205,7 +205,7 @@ module _ {X : ℕ → List (List Float) → Texcoords → Type 0} {R : List Row 
 
   -- the texture settings that both read
   entry-same : scaleEntry (k .state .texture .sc) (k .state .texture .tc) ≡ scaleEntry (w .rsp .texture-state .sc) (w .rsp .texture-state .tc)
-  entry-same = rw (N .texture) refl
+  entry-same = rw (N .settings .texture) refl
 
   scales-now : Scaled (o .port3) (o .rust3) (k .state .unit) (edit (onlyIf (d .scale) (d .scales ∷ [])) (k .scales .used)) (texcoords-then (w .rsp .texture-state) (w .rsp .texcoords))
   unfolding settled
@@ -221,7 +221,7 @@ module _ {X : ℕ → List (List Float) → Texcoords → Type 0} {R : List Row 
 
   fog-then : pick (d .foggy) (d .fogat + 1) 0 ≡ cond (has (w .rsp .geom) g-fog-geom) (position (w .scene .fog-table) (w .fog-mul) (w .fog-offset) + 1) 0
   unfolding settled
-  fog-then = rw (N .fogmul, N .fogoff, N .fog-table, foggy-same) (fog-number (w .scene .fog-table) (N .fog-pairs) (w .fog-mul) (w .fog-offset) (has (w .rsp .geom) g-fog-geom))
+  fog-then = rw (N .settings .fogmul, N .settings .fogoff, N .recorded .fog-table, foggy-same) (fog-number (w .scene .fog-table) (N .recorded .fog-pairs) (w .fog-mul) (w .fog-offset) (has (w .rsp .geom) g-fog-geom))
 
   -- one of two by a test, as each side says it
   pick-cond : {A : Type 0} (b : Bool) (p q : A) → pick b p q ≡ cond b p q
@@ -296,50 +296,40 @@ module _ {X : ℕ → List (List Float) → Texcoords → Type 0} {R : List Row 
 
   light-table-now : edit (loadEdits d (k .state) vs .lights) (k .lights .used) ≡ map joined (after .scene .lights-table)
   unfolding set-vertex loadEdits settled
-  light-table-now = rw (← lit-same) (light-table-after (N .lights) m (laid (top (k .state))) top-then (lit f3dex2 (k .state .geometry)) (k .lights .used) (w .scene .lights-table) (N .light-table))
+  light-table-now = rw (← lit-same) (light-table-after (N .lights) m (laid (top (k .state))) top-then (lit f3dex2 (k .state .geometry)) (k .lights .used) (w .scene .lights-table) (N .recorded .light-table))
 
   look-table-now : edit (loadEdits d (k .state) vs .lookats) (k .lookats .used) ≡ map joined (after .scene .lookat-table)
   unfolding set-vertex loadEdits settled
-  look-table-now = rw (← mode-same) (look-table-after (N .lookat) m (laid (top (k .state))) top-then (texgenMode f3dex2 (k .state .geometry)) (k .lookats .used) (w .scene .lookat-table) (N .lookat-table))
+  look-table-now = rw (← mode-same) (look-table-after (N .lookat) m (laid (top (k .state))) top-then (texgenMode f3dex2 (k .state .geometry)) (k .lookats .used) (w .scene .lookat-table) (N .recorded .lookat-table))
 
   fog-table-now : edit (loadEdits d (k .state) vs .fogs) (k .fogs .used) ≡ after .scene .fog-table
   unfolding set-vertex loadEdits settled
   fog-table-now =
-      rw (N .fogmul, N .fogoff, N .fog-table, foggy-same) (fog-after (w .scene .fog-table) (N .fog-pairs) (w .fog-mul) (w .fog-offset) (has (w .rsp .geom) g-fog-geom))
+      rw (N .settings .fogmul, N .settings .fogoff, N .recorded .fog-table, foggy-same) (fog-after (w .scene .fog-table) (N .recorded .fog-pairs) (w .fog-mul) (w .fog-offset) (has (w .rsp .geom) g-fog-geom))
 
   fog-pairs-now : Wide 2 (after .scene .fog-table)
   unfolding set-vertex
-  fog-pairs-now = fog-wide (w .scene .fog-table) (N .fog-pairs) (w .fog-mul) (w .fog-offset) (has (w .rsp .geom) g-fog-geom)
+  fog-pairs-now = fog-wide (w .scene .fog-table) (N .recorded .fog-pairs) (w .fog-mul) (w .fog-offset) (has (w .rsp .geom) g-fog-geom)
 
   -- the state with its slots apart
   abbrev apart : State
-  apart = withSlots (settledState d (k .state)) (then .row) (then .ever) (then .loaded) (then .drawn) (then .coded) (then .code) (then .deep) (then .z)
+  apart = withSlots (settledState d (k .state)) (slotsOf then)
 
   loaded : Same o (enter apart (loadEdits d (k .state) vs) k) after
   unfolding set-vertex settledState loadEdits sharing-of
   loaded =
       record {
         count = counted-then k (k .state) (loadEdits d (k .state) vs) (N .count);
-        microcode = N .microcode;
-        texture = N .texture;
-        small = N .small;
-        fogmul = N .fogmul;
-        fogoff = N .fogoff;
+        settings = N .settings;
         matrices = matrices-then;
         defined = mark-then;
-        geometry = N .geometry;
         view = N .view;
         lights = lights-now;
         lookat = looking-now;
         slots = slots-now;
         scales = scales-now .same;
         rows = rows-now;
-        light-table = light-table-now;
-        lookat-table = look-table-now;
-        fog-table = fog-table-now;
-        fog-pairs = fog-pairs-now;
-        indices = N .indices;
-        runs = N .runs;
+        recorded = record { light-table = light-table-now; lookat-table = look-table-now; fog-table = fog-table-now; fog-pairs = fog-pairs-now; indices = N .recorded .indices; runs = N .recorded .runs };
       }
 
   load-owes : Agrees (Same o) (pick (k .state .defined) 0 1 ∷ []) (enter then (loadEdits d (k .state) vs) k) (execute (load first count bytes at-byte) w)
@@ -361,4 +351,4 @@ load-scaled {X} {R} {o} {k} {w} N sc rs first count bytes p I =
 -- a load of the domain
 pub load-agrees : {o : Offsets} {k : Book} {w : World} → Same o k w → (first count : ℕ) (bytes : List ℕ) (at : ℕ) → Data bytes
     → Accepted (λ vs t e. Agrees (Same o) vs (enter t e k) (execute (load first count bytes at) w)) (plan f3dex2 256 (load first count bytes at) k)
-load-agrees {o} {k} {w} N first count bytes p I = load-scaled N (scales-loaded (N .scales) (w .rsp .texture-state) (N .small .0) (N .small .1)) (N .rows) first count bytes p I
+load-agrees {o} {k} {w} N first count bytes p I = load-scaled N (scales-loaded (N .scales) (w .rsp .texture-state) (N .settings .small .0) (N .settings .small .1)) (N .rows) first count bytes p I

@@ -550,26 +550,16 @@ module _ {D : Bool → Bool → Type 0} {G : ℕ → ℕ → Type 0} {P : List F
   modified =
       record {
         count = counted-then k (k .state) edits (N .count);
-        microcode = N .microcode;
-        texture = N .texture;
-        small = N .small;
-        fogmul = N .fogmul;
-        fogoff = N .fogoff;
+        settings = N .settings;
         matrices = N .matrices;
         defined = N .defined;
-        geometry = N .geometry;
         view = N .view;
         lights = N .lights;
         lookat = N .lookat;
         slots = slots-then (getD (k .state .drawn) slot false) refl;
         scales = scales-then;
         rows = rows-then (getD (k .state .drawn) slot false);
-        light-table = N .light-table;
-        lookat-table = N .lookat-table;
-        fog-table = N .fog-table;
-        fog-pairs = N .fog-pairs;
-        indices = N .indices;
-        runs = N .runs;
+        recorded = N .recorded;
       }
 
   modify-owes : Agrees S [] (enter (changed c m (k .state) slot) edits k) (execute (modify slot attribute value) w)

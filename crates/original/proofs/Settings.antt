@@ -18,19 +18,20 @@ use Rattle.matrix.specs.Math as math
 use Rattle.stage.specs.declared.Lights.{Lights}
 use Rattle.stage.specs.declared.Lookat.{Lookat}
 use Rattle.stage.specs.declared.settings.Microcode.{Microcode}
+use Rattle.stage.specs.declared.Texture.{Texture}
+use Rattle.stage.specs.With.{withGeometry, withFog, withTexture, withLights, withLookat, marked, withNumber, withAmbient, withColumns, withAxes}
 use Rattle.stage.specs.Plan.{Row, untouched}
 use Rattle.stage.specs.Sound.{stateSound}
 use Rattle.stage.specs.Matrices.{geometryPlan}
 use Rattle.stage.specs.Lights.{texturePlan, fogPlan, numberPlan, lightPlan, ambientPlan, slotPlan, lightIn, axisIn, lookatPlan, switched, microcodePlan}
 use Rattle.sequence.specs.Sequence.{Command, geometry, texture, fog, number, light, lookat, microcode, Book, plan}
 use Rattle.sequence.proofs.Turn.{enter}
-use Rattle.sequence.proofs.Counted.{Counted, counted-then}
 use Rattle.sequence.proofs.Accepts.{Accepted, on-does, on-unless, on-pick}
 use Rattle.original.specs.Math.{Mat4}
-use Rattle.original.specs.Rsp.{Matrices, Viewports, Texcoords, Lighting, Looking, modify-geometry, set-num-lights, set-light, set-lookat, switch-microcode, col3, dir3}
+use Rattle.original.specs.Rsp.{Matrices, Viewports, TextureState, Texcoords, Lighting, Looking, modify-geometry, set-num-lights, set-light, set-lookat, switch-microcode, col3, dir3}
 use Rattle.original.specs.Drawing.{Columns}
-use Rattle.original.specs.Walk.{World, execute, with-version}
-use Rattle.original.specs.Relation.{MatrixSame, KeySame, LightsSame, LookSame, SlotsSame, isSome, orElse, Near}
+use Rattle.original.specs.Walk.{World, execute, with-settings, with-version}
+use Rattle.original.specs.Relation.{MatrixSame, KeySame, LightsSame, LookSame, SlotsSame, isSome, orElse, SettingsSame, Near}
 use Rattle.original.specs.Domain.{Data, Agrees}
 use Rattle.original.proofs.Alike.{relit-same}
 use Rattle.original.proofs.Readers.{colour-same, direction-same}
@@ -72,7 +73,7 @@ cond-length true l k x = length-set l k x
 cond-length false l k x = refl
 
 lights-numbered : (n : ℕ) (l : Lights) (x : Lighting) → LightsSame l x
-    → LightsSame (record { number = min (n / 24) 7; directions = l .directions; colours = l .colours; ambient = l .ambient; changed = true; folded = l .folded; top = l .top; first = l .first }) (set-num-lights n x)
+    → LightsSame (marked (withNumber l (min (n / 24) 7)) true) (set-num-lights n x)
 unfolding set-num-lights
 lights-numbered n l x S =
     record {
@@ -88,7 +89,7 @@ lights-numbered n l x S =
     }
 
 lights-relit : (b : Bool) (l : Lights) (x : Lighting) → LightsSame l x
-    → LightsSame (record { number = l .number; directions = l .directions; colours = l .colours; ambient = l .ambient; changed = l .changed || b; folded = l .folded; top = l .top; first = l .first }) (with-version x (cond b (x .light-version + 1) (x .light-version)))
+    → LightsSame (marked l (l .changed || b)) (with-version x (cond b (x .light-version + 1) (x .light-version)))
 lights-relit b l x S =
     record {
       number = S .number;
@@ -105,7 +106,7 @@ lights-relit b l x S =
 module _ (mem : List ℕ) (at : ℕ) (D : Data mem) (l : Lights) (x : Lighting) (S : LightsSame l x) where
   -- the ambient colour
   lights-ambient : at + 3 ≤ length mem → (slot : ℕ) → eqb slot (x .num-dir) ≡ true
-      → LightsSame (record { number = l .number; directions = l .directions; colours = l .colours; ambient = colourAt mem at; changed = true; folded = l .folded; top = l .top; first = l .first }) (set-light mem slot at x)
+      → LightsSame (marked (withAmbient l (colourAt mem at)) true) (set-light mem slot at x)
   unfolding set-light colourAt
   lights-ambient n slot e =
       record {
@@ -122,7 +123,7 @@ module _ (mem : List ℕ) (at : ℕ) (D : Data mem) (l : Lights) (x : Lighting) 
 
   -- a slot below 8, or above
   lights-slotted : at + 11 ≤ length mem → (slot : ℕ) → eqb slot (x .num-dir) ≡ false
-      → LightsSame (record { number = l .number; directions = slotted 8 (l .directions) slot (directionAt mem (at + 8)); colours = slotted 8 (l .colours) slot (colourAt mem at); ambient = l .ambient; changed = true; folded = l .folded; top = l .top; first = l .first }) (set-light mem slot at x)
+      → LightsSame (marked (withColumns l (slotted 8 (l .directions) slot (directionAt mem (at + 8))) (slotted 8 (l .colours) slot (colourAt mem at))) true) (set-light mem slot at x)
   unfolding set-light
   lights-slotted n slot e =
       let dir = direction-same mem at (D .bytes) (D .short) n in
@@ -145,7 +146,7 @@ module _ (mem : List ℕ) (at : ℕ) (D : Data mem) (l : Lights) (x : Lighting) 
 
 -- the lookat axis in its slot
 lookat-slotted : (mem : List ℕ) (at : ℕ) → Data mem → (l : Lookat) (x : Looking) → LookSame l x → at + 11 ≤ length mem → (slot : ℕ)
-    → LookSame (record { axes = slotted 2 (l .axes) slot (directionAt mem (at + 8)); changed = true; folded = l .folded; top = l .top; place = l .place }) (set-lookat mem slot at x)
+    → LookSame (withAxes l (slotted 2 (l .axes) slot (directionAt mem (at + 8))) true) (set-lookat mem slot at x)
 unfolding set-lookat
 lookat-slotted mem at D l x S n slot =
     record {
@@ -169,104 +170,46 @@ module _ {D : Bool → Bool → Type 0} {G : ℕ → ℕ → Type 0} {P : List F
   abbrev Owes : (Bool → Bool → Type 0) → (ℕ → ℕ → Type 0) → Command → Type 0
   Owes D′ G′ c = Accepted (λ vs t e. Agrees (Near D′ G′ P X R) vs (enter t e k) (execute c w)) (plan f3dex2 256 c k)
 
-  abbrev count-same : Counted (enter (k .state) untouched k)
-  count-same = counted-then k (k .state) untouched (N .count)
+  -- other settings, lights and lookat on both sides; all else stays
+  settings-near : {G′ : ℕ → ℕ → Type 0} {g g′ : ℕ} {a a′ b b′ : ℤ} {t : Texture} {t′ : TextureState} {l : Lights} {l′ : Lighting} {o : Lookat} {o′ : Looking}
+      → let s = withLookat (withLights (withTexture (withFog (withGeometry (k .state) g) a b) t) l) o in
+      let v : World = record { rsp = with-settings (w .rsp) g′ t′ l′ o′; fog-mul = a′; fog-offset = b′; scene = w .scene } in
+      SettingsSame G′ s v → LightsSame l l′ → LookSame o o′ → Near D G′ P X R (enter s untouched k) v
+  settings-near s l o =
+      record {
+        count = N .count;
+        settings = s;
+        matrices = N .matrices;
+        defined = N .defined;
+        view = N .view;
+        lights = l;
+        lookat = o;
+        slots = N .slots;
+        scales = N .scales;
+        rows = N .rows;
+        recorded = N .recorded;
+      }
 
   pub texture-agrees : (tile level : ℕ) (on : Bool) (sc tc : ℕ) → (sc < 65536) × (tc < 65536) → Owes D G (texture tile level on sc tc)
   unfolding plan texturePlan execute
   texture-agrees tile level on sc tc h =
       on-unless _ (stateSound (k .state)) 10 [] _
       (λ _.
-      on-does _ _ _ _ (
-        refl,
-        record {
-          count = count-same;
-          microcode = N .microcode;
-          texture = refl;
-          small = h;
-          fogmul = N .fogmul;
-          fogoff = N .fogoff;
-          matrices = N .matrices;
-          defined = N .defined;
-          geometry = N .geometry;
-          view = N .view;
-          lights = N .lights;
-          lookat = N .lookat;
-          slots = N .slots;
-          scales = N .scales;
-          rows = N .rows;
-          light-table = N .light-table;
-          lookat-table = N .lookat-table;
-          fog-table = N .fog-table;
-          fog-pairs = N .fog-pairs;
-          indices = N .indices;
-          runs = N .runs;
-        },
-      ))
+      on-does _ _ _ _ (refl, settings-near (record { microcode = N .settings .microcode; texture = refl; small = h; fogmul = N .settings .fogmul; fogoff = N .settings .fogoff; geometry = N .settings .geometry }) (N .lights) (N .lookat)))
 
   pub fog-agrees : (multiplier offset : ℤ) → Owes D G (fog multiplier offset)
   unfolding plan fogPlan execute
   fog-agrees multiplier offset =
       on-unless _ (stateSound (k .state)) 10 [] _
       (λ _.
-      on-does _ _ _ _ (
-        refl,
-        record {
-          count = count-same;
-          microcode = N .microcode;
-          texture = N .texture;
-          small = N .small;
-          fogmul = refl;
-          fogoff = refl;
-          matrices = N .matrices;
-          defined = N .defined;
-          geometry = N .geometry;
-          view = N .view;
-          lights = N .lights;
-          lookat = N .lookat;
-          slots = N .slots;
-          scales = N .scales;
-          rows = N .rows;
-          light-table = N .light-table;
-          lookat-table = N .lookat-table;
-          fog-table = N .fog-table;
-          fog-pairs = N .fog-pairs;
-          indices = N .indices;
-          runs = N .runs;
-        },
-      ))
+      on-does _ _ _ _ (refl, settings-near (record { microcode = N .settings .microcode; texture = N .settings .texture; small = N .settings .small; fogmul = refl; fogoff = refl; geometry = N .settings .geometry }) (N .lights) (N .lookat)))
 
   pub number-agrees : (bytes : ℕ) → Owes D G (number bytes)
   unfolding plan numberPlan execute
   number-agrees bytes =
       on-unless _ (stateSound (k .state)) 10 [] _
       (λ _.
-      on-does _ _ _ _ (
-        refl,
-        record {
-          count = count-same;
-          microcode = N .microcode;
-          texture = N .texture;
-          small = N .small;
-          fogmul = N .fogmul;
-          fogoff = N .fogoff;
-          matrices = N .matrices;
-          defined = N .defined;
-          geometry = N .geometry;
-          view = N .view;
-          lights = lights-numbered bytes (k .state .lights) (w .rsp .lighting) (N .lights);
-          lookat = N .lookat;
-          slots = N .slots;
-          scales = N .scales;
-          rows = N .rows;
-          light-table = N .light-table;
-          lookat-table = N .lookat-table;
-          fog-table = N .fog-table;
-          fog-pairs = N .fog-pairs;
-          indices = N .indices;
-          runs = N .runs;
-        },
-      ))
+      on-does _ _ _ _ (refl, settings-near (N .settings) (lights-numbered bytes (k .state .lights) (w .rsp .lighting) (N .lights)) (N .lookat)))
 
   pub light-agrees : (slot : ℕ) (bytes : List ℕ) (at : ℕ) → Data bytes → Owes D G (light slot bytes at)
   unfolding plan lightPlan ambientPlan slotPlan lightIn lightAt execute
@@ -277,61 +220,11 @@ module _ {D : Bool → Bool → Type 0} {G : ℕ → ℕ → Type 0} {P : List F
       (λ e.
       on-unless _ (leb (at + 3) (length bytes)) 7 _ _
       (λ n.
-      on-does _ _ _ _ (
-        refl,
-        record {
-          count = count-same;
-          microcode = N .microcode;
-          texture = N .texture;
-          small = N .small;
-          fogmul = N .fogmul;
-          fogoff = N .fogoff;
-          matrices = N .matrices;
-          defined = N .defined;
-          geometry = N .geometry;
-          view = N .view;
-          lights = lights-ambient bytes at I (k .state .lights) (w .rsp .lighting) (N .lights) (leb-true _ _ n) slot (numbered ∙ e);
-          lookat = N .lookat;
-          slots = N .slots;
-          scales = N .scales;
-          rows = N .rows;
-          light-table = N .light-table;
-          lookat-table = N .lookat-table;
-          fog-table = N .fog-table;
-          fog-pairs = N .fog-pairs;
-          indices = N .indices;
-          runs = N .runs;
-        },
-      )))
+      on-does _ _ _ _ (refl, settings-near (N .settings) (lights-ambient bytes at I (k .state .lights) (w .rsp .lighting) (N .lights) (leb-true _ _ n) slot (numbered ∙ e)) (N .lookat))))
       (λ e.
       on-unless _ (leb (at + 11) (length bytes)) 7 _ _
       (λ n.
-      on-does _ _ _ _ (
-        refl,
-        record {
-          count = count-same;
-          microcode = N .microcode;
-          texture = N .texture;
-          small = N .small;
-          fogmul = N .fogmul;
-          fogoff = N .fogoff;
-          matrices = N .matrices;
-          defined = N .defined;
-          geometry = N .geometry;
-          view = N .view;
-          lights = lights-slotted bytes at I (k .state .lights) (w .rsp .lighting) (N .lights) (leb-true _ _ n) slot (numbered ∙ e);
-          lookat = N .lookat;
-          slots = N .slots;
-          scales = N .scales;
-          rows = N .rows;
-          light-table = N .light-table;
-          lookat-table = N .lookat-table;
-          fog-table = N .fog-table;
-          fog-pairs = N .fog-pairs;
-          indices = N .indices;
-          runs = N .runs;
-        },
-      ))))
+      on-does _ _ _ _ (refl, settings-near (N .settings) (lights-slotted bytes at I (k .state .lights) (w .rsp .lighting) (N .lights) (leb-true _ _ n) slot (numbered ∙ e)) (N .lookat)))))
     where
       numbered : eqb slot (w .rsp .lighting .num-dir) ≡ eqb slot (k .state .lights .number)
       numbered = ap (eqb slot) (sym (N .lights .number))
@@ -343,32 +236,7 @@ module _ {D : Bool → Bool → Type 0} {G : ℕ → ℕ → Type 0} {P : List F
       (λ _.
       on-unless _ (leb (at + 11) (length bytes)) 7 _ _
       (λ n.
-      on-does _ _ _ _ (
-        refl,
-        record {
-          count = count-same;
-          microcode = N .microcode;
-          texture = N .texture;
-          small = N .small;
-          fogmul = N .fogmul;
-          fogoff = N .fogoff;
-          matrices = N .matrices;
-          defined = N .defined;
-          geometry = N .geometry;
-          view = N .view;
-          lights = N .lights;
-          lookat = lookat-slotted bytes at I (k .state .lookat) (w .rsp .looking) (N .lookat) (leb-true _ _ n) slot;
-          slots = N .slots;
-          scales = N .scales;
-          rows = N .rows;
-          light-table = N .light-table;
-          lookat-table = N .lookat-table;
-          fog-table = N .fog-table;
-          fog-pairs = N .fog-pairs;
-          indices = N .indices;
-          runs = N .runs;
-        },
-      )))
+      on-does _ _ _ _ (refl, settings-near (N .settings) (N .lights) (lookat-slotted bytes at I (k .state .lookat) (w .rsp .looking) (N .lookat) (leb-true _ _ n) slot))))
 
   -- a geometry word that the two sides have in common, or one that is set whole
   pub geometry-agrees : (G′ : ℕ → ℕ → Type 0) (off on : ℕ) → G′ (geometryAfter off on (k .state .geometry)) (modify-geometry off on (w .rsp .geom))
@@ -378,32 +246,7 @@ module _ {D : Bool → Bool → Type 0} {G : ℕ → ℕ → Type 0} {P : List F
   geometry-agrees G′ off on g e =
       on-unless _ (stateSound (k .state)) 10 [] _
       (λ _.
-      on-does _ _ _ _ (
-        refl,
-        record {
-          count = count-same;
-          microcode = N .microcode;
-          texture = N .texture;
-          small = N .small;
-          fogmul = N .fogmul;
-          fogoff = N .fogoff;
-          matrices = N .matrices;
-          defined = N .defined;
-          geometry = g;
-          view = N .view;
-          lights = rw (relit-same (w .rsp .geom) (modify-geometry off on (w .rsp .geom)), e) (lights-relit (relit f3dex2 (k .state .geometry) (geometryAfter off on (k .state .geometry))) (k .state .lights) (w .rsp .lighting) (N .lights));
-          lookat = N .lookat;
-          slots = N .slots;
-          scales = N .scales;
-          rows = N .rows;
-          light-table = N .light-table;
-          lookat-table = N .lookat-table;
-          fog-table = N .fog-table;
-          fog-pairs = N .fog-pairs;
-          indices = N .indices;
-          runs = N .runs;
-        },
-      ))
+      on-does _ _ _ _ (refl, settings-near (record { microcode = N .settings .microcode; texture = N .settings .texture; small = N .settings .small; fogmul = N .settings .fogmul; fogoff = N .settings .fogoff; geometry = g }) (rw (relit-same (w .rsp .geom) (modify-geometry off on (w .rsp .geom)), e) (lights-relit (relit f3dex2 (k .state .geometry) (geometryAfter off on (k .state .geometry))) (k .state .lights) (w .rsp .lighting) (N .lights))) (N .lookat)))
 
   pub microcode-agrees : (to : Microcode) → Owes _≡_ G (microcode to)
   unfolding plan microcodePlan switched execute switch-microcode
@@ -413,27 +256,17 @@ module _ {D : Bool → Bool → Type 0} {G : ℕ → ℕ → Type 0} {P : List F
       on-does _ _ _ _ (
         refl,
         record {
-          count = count-same;
-          microcode = refl;
-          texture = N .texture;
-          small = N .small;
-          fogmul = N .fogmul;
-          fogoff = N .fogoff;
+          count = N .count;
+          settings = record { microcode = refl; texture = N .settings .texture; small = N .settings .small; fogmul = N .settings .fogmul; fogoff = N .settings .fogoff; geometry = N .settings .geometry };
           matrices = matrices-kept;
           defined = refl;
-          geometry = N .geometry;
           view = N .view;
           lights = N .lights;
           lookat = N .lookat;
           slots = slots-cleared;
           scales = N .scales;
           rows = N .rows;
-          light-table = N .light-table;
-          lookat-table = N .lookat-table;
-          fog-table = N .fog-table;
-          fog-pairs = N .fog-pairs;
-          indices = N .indices;
-          runs = N .runs;
+          recorded = N .recorded;
         },
       ))
     where

@@ -18,11 +18,10 @@ use Rattle.fold.specs.Direction.{three}
 use Rattle.layout.specs.Layout.{viewportAt}
 use Rattle.stage.specs.Plan.{keep, grow, Row, pick}
 use Rattle.stage.specs.Opening.{zeros, blank, opened}
-use Rattle.stage.specs.Matrices.{edits2, viewportEntry}
+use Rattle.stage.specs.Matrices.{viewportEntry}
 use Rattle.stage.specs.Load.{onlyIf}
 use Rattle.sequence.specs.Sequence.{viewport, Areas, Book, plan}
 use Rattle.sequence.proofs.Turn.{edit, enter}
-use Rattle.sequence.proofs.Counted.{counted-then}
 use Rattle.sequence.proofs.Accepts.{Accepted, on-viewport}
 use Rattle.sequence.proofs.Opened.{opened-book}
 use Rattle.original.specs.Math.{f0, identity}
@@ -37,7 +36,7 @@ use Rattle.original.proofs.Alike.{entry-same}
 use Rattle.original.proofs.Readers.{tc-same}
 use Rattle.original.proofs.Loads.{Scaled, scale-entry}
 use Rattle.original.proofs.Seeds.{zeros-entry, half-entry, seed-scale, ratio-zero}
-use Rattle.original.proofs.Views.{entry-read}
+use Rattle.original.proofs.Views.{entry-read, view-near}
 use Rattle.original.proofs.Settings.{map-replicate}
 
 -- ---- what is said of the parts that begin differently
@@ -137,26 +136,16 @@ unfolding start opened blank
 start-near l =
     record {
       count = record { matrices = refl; viewports = refl; scales = refl; lights = refl; lookats = refl; fogs = refl; rows = refl; indices = refl; runs = refl };
-      microcode = refl;
-      texture = refl;
-      small = (omega arith, omega arith);
-      fogmul = refl;
-      fogoff = refl;
+      settings = record { microcode = refl; texture = refl; small = (omega arith, omega arith); fogmul = refl; fogoff = refl; geometry = (refl, refl) };
       matrices = matrices0;
       defined = tt;
-      geometry = (refl, refl);
       view = (refl, refl);
       lights = lights0;
       lookat = lookat0;
       slots = slots0;
       scales = (refl, refl, refl);
       rows = (refl, refl);
-      light-table = refl;
-      lookat-table = refl;
-      fog-table = refl;
-      fog-pairs = tt;
-      indices = refl;
-      runs = refl;
+      recorded = record { light-table = refl; lookat-table = refl; fog-table = refl; fog-pairs = tt; indices = refl; runs = refl };
     }
 
 -- ---- the viewport set for the first time
@@ -237,59 +226,9 @@ unfolding plan execute
 viewport-begins {D} {G} {X} {R} {k} {w} N bytes at I =
     on-viewport _ (k .state) (k .viewports) bytes at
     (λ n e.
-    let q : matches eq (zeros 6) (viewportEntry bytes at) ≡ true = rw (N .view .0) at e in (
-      refl,
-      record {
-        count = counted-then k (k .state) (edits2 keep) (N .count);
-        microcode = N .microcode;
-        texture = N .texture;
-        small = N .small;
-        fogmul = N .fogmul;
-        fogoff = N .fogoff;
-        matrices = N .matrices;
-        defined = N .defined;
-        geometry = N .geometry;
-        view = rw (N .view .0, N .view .1) (begun-view bytes at I n true q);
-        lights = N .lights;
-        lookat = N .lookat;
-        slots = N .slots;
-        scales = N .scales;
-        rows = N .rows;
-        light-table = N .light-table;
-        lookat-table = N .lookat-table;
-        fog-table = N .fog-table;
-        fog-pairs = N .fog-pairs;
-        indices = N .indices;
-        runs = N .runs;
-      },
-    ))
+    let q : matches eq (zeros 6) (viewportEntry bytes at) ≡ true = rw (N .view .0) at e in (refl, view-near N keep (rw (N .view .0, N .view .1) (begun-view bytes at I n true q))))
     (λ n e _.
-    let q : matches eq (zeros 6) (viewportEntry bytes at) ≡ false = rw (N .view .0) at e in (
-      refl,
-      record {
-        count = counted-then k (k .state) (edits2 (grow (viewportEntry bytes at ∷ []))) (N .count);
-        microcode = N .microcode;
-        texture = N .texture;
-        small = N .small;
-        fogmul = N .fogmul;
-        fogoff = N .fogoff;
-        matrices = N .matrices;
-        defined = N .defined;
-        geometry = N .geometry;
-        view = rw (N .view .0, N .view .1) (begun-view bytes at I n false q);
-        lights = N .lights;
-        lookat = N .lookat;
-        slots = N .slots;
-        scales = N .scales;
-        rows = N .rows;
-        light-table = N .light-table;
-        lookat-table = N .lookat-table;
-        fog-table = N .fog-table;
-        fog-pairs = N .fog-pairs;
-        indices = N .indices;
-        runs = N .runs;
-      },
-    ))
+    let q : matches eq (zeros 6) (viewportEntry bytes at) ≡ false = rw (N .view .0) at e in (refl, view-near N (grow (viewportEntry bytes at ∷ [])) (rw (N .view .0, N .view .1) (begun-view bytes at I n false q))))
 
 -- ---- the geometry mode set whole
 

@@ -14,12 +14,11 @@ use Rattle.decide.specs.Family.{f3dex2}
 use Rattle.matrix.specs.Math as math
 use Rattle.numbers.specs.Ratio.{ofRatio}
 use Rattle.triangle.specs.Slot.{bit, held}
-use Rattle.stage.specs.Plan.{Row, untouched}
+use Rattle.stage.specs.Plan.{Row}
 use Rattle.stage.specs.Draw.{slotsFrom, slotsTo, codesOf, anded, culled}
 use Rattle.stage.proofs.Judged.{and-left, and-right}
 use Rattle.sequence.specs.Sequence.{Command, cull, depth, Book, plan}
 use Rattle.sequence.proofs.Turn.{enter}
-use Rattle.sequence.proofs.Counted.{counted-then}
 use Rattle.sequence.proofs.Accepts.{Accepted, Coded, on-cull, on-depth}
 use Rattle.original.specs.Rsp.{Viewports, Texcoords}
 use Rattle.original.specs.Drawing.{Columns, Ok, common, cull-display-list, branch-z}
@@ -46,33 +45,6 @@ bit-is true = refl
 bit-is false = refl
 
 module _ {D : Bool → Bool → Type 0} {G : ℕ → ℕ → Type 0} {P : List Float → List (List Float) → Viewports → Type 0} {X : ℕ → List (List Float) → Texcoords → Type 0} {R : List Row → Columns → Type 0} {k : Book} {w : World} (N : Near D G P X R k w) where
-  -- nothing changes
-  pub unchanged : Near D G P X R (enter (k .state) untouched k) w
-  unchanged =
-      record {
-        count = counted-then k (k .state) untouched (N .count);
-        microcode = N .microcode;
-        texture = N .texture;
-        small = N .small;
-        fogmul = N .fogmul;
-        fogoff = N .fogoff;
-        matrices = N .matrices;
-        defined = N .defined;
-        geometry = N .geometry;
-        view = N .view;
-        lights = N .lights;
-        lookat = N .lookat;
-        slots = N .slots;
-        scales = N .scales;
-        rows = N .rows;
-        light-table = N .light-table;
-        lookat-table = N .lookat-table;
-        fog-table = N .fog-table;
-        fog-pairs = N .fog-pairs;
-        indices = N .indices;
-        runs = N .runs;
-      }
-
   abbrev Owes : Command → Type 0
   Owes c = Accepted (λ vs t e. Agrees (Near D G P X R) vs (enter t e k) (execute c w)) (plan f3dex2 256 c k)
 
@@ -92,7 +64,7 @@ module _ {D : Bool → Bool → Type 0} {G : ℕ → ℕ → Type 0} {P : List F
       (λ a b.
       let t = there (w .rsp .slots .screen-z) slot (ap (λ (l : List Bool). getD l slot false) (sym (N .slots .deep)) ∙ b) in
       let z : getD (k .state .z) slot nan ≡ t .value = ap (λ (l : List Float). getD l slot nan) (N .slots .z) ∙ t .read math.zero nan in
-      rw (slot-loaded slot a, t .is, wide-same threshold small, z) (ap (λ (n : ℕ). n ∷ []) (bit-is (le (t .value) (ofRatio binary64 (pos threshold) 65536))), unchanged))
+      rw (slot-loaded slot a, t .is, wide-same threshold small, z) (ap (λ (n : ℕ). n ∷ []) (bit-is (le (t .value) (ofRatio binary64 (pos threshold) 65536))), N))
 
   -- ---- cull test
 
@@ -110,4 +82,4 @@ module _ {D : Bool → Bool → Type 0} {G : ℕ → ℕ → Type 0} {P : List F
   cull-agrees first last =
       on-cull _ 256 (k .state) first last
       (λ a b h.
-      rw (le-ltb last first a, lt-leb 256 last b, common-is (last + 1 - first) first 0x0f h) (ap (λ (n : ℕ). n ∷ []) (bit-is (culled (codesOf (k .state) (slotsTo first last)))), unchanged))
+      rw (le-ltb last first a, lt-leb 256 last b, common-is (last + 1 - first) first 0x0f h) (ap (λ (n : ℕ). n ∷ []) (bit-is (culled (codesOf (k .state) (slotsTo first last)))), N))

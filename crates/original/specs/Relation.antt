@@ -13,6 +13,7 @@ use Rattle.areas.specs.Area.{part, Wide}
 use Rattle.matrix.specs.Math.{zero, at, rows, laid}
 use Rattle.fold.specs.Direction.{three}
 use Rattle.triangle.specs.Slot.{bit}
+use Rattle.stage.specs.declared.State.{State}
 use Rattle.stage.specs.declared.Texture.{Texture}
 use Rattle.stage.specs.declared.Lights.{Lights}
 use Rattle.stage.specs.declared.Lookat.{Lookat}
@@ -23,7 +24,7 @@ use Rattle.sequence.specs.Counted.{Counted}
 use Rattle.finished.specs.Shown.{Corner, entriesOf, fogShown, noRow, shown}
 use Rattle.original.specs.Math.{Mat4, f1}
 use Rattle.original.specs.Rsp.{Slots, Matrices, Viewports, TextureState, Texcoords, Lighting, Looking}
-use Rattle.original.specs.Drawing.{Columns, DrawRun, Made, made-at}
+use Rattle.original.specs.Drawing.{Columns, DrawRun, Scene, Made, made-at}
 use Rattle.original.specs.Walk.{World}
 
 -- ---- tables that begin differently
@@ -178,31 +179,44 @@ runNumbers r =
 abbrev pub textureOf : TextureState → Texture
 textureOf x = record { tile = x .tile; level = x .level; on = x .on; sc = x .sc; tc = x .tc }
 
+-- the settings that are numbers, the geometry mode by G; both scales are of 16 bits
+abbrev pub SettingsSame : (ℕ → ℕ → Type 0) → State → World → Type 0
+SettingsSame G s w =
+    record {
+      microcode : s .microcode ≡ microcodeNumber (w .rsp .microcode);
+      texture : s .texture ≡ textureOf (w .rsp .texture-state);
+      small : (w .rsp .texture-state .sc < 65536) × (w .rsp .texture-state .tc < 65536);
+      fogmul : s .fogmul ≡ w .fog-mul;
+      fogoff : s .fogoff ≡ w .fog-offset;
+      geometry : G (s .geometry) (w .rsp .geom);
+    }
+
+-- tables 4, 5, 6, 8 and 9
+abbrev pub RecordedSame : Book → Scene → Type 0
+RecordedSame k c =
+    record {
+      light-table : k .lights .used ≡ map joined (c .lights-table);
+      lookat-table : k .lookats .used ≡ map joined (c .lookat-table);
+      fog-table : k .fogs .used ≡ c .fog-table;
+      fog-pairs : Wide 2 (c .fog-table);
+      indices : k .indices .used ≡ map (λ (i : ℕ). i ∷ []) (c .indices);
+      runs : k .runs .used ≡ map runNumbers (c .draw-runs);
+    }
+
 -- ---- the whole, over what is said of the parts that begin differently: whether the matrix is defined (D), geometry mode (G), viewport (P), scales (X), rows (R)
 
 pub record Near (D : Bool → Bool → Type 0) (G : ℕ → ℕ → Type 0) (P : List Float → List (List Float) → Viewports → Type 0) (X : ℕ → List (List Float) → Texcoords → Type 0) (R : List Row → Columns → Type 0) (k : Book) (w : World) : Type 0 where
   pub count : Counted k
-  pub microcode : k .state .microcode ≡ microcodeNumber (w .rsp .microcode)
-  pub texture : k .state .texture ≡ textureOf (w .rsp .texture-state)
-  -- both scales are of 16 bits
-  pub small : (w .rsp .texture-state .sc < 65536) × (w .rsp .texture-state .tc < 65536)
-  pub fogmul : k .state .fogmul ≡ w .fog-mul
-  pub fogoff : k .state .fogoff ≡ w .fog-offset
+  pub settings : SettingsSame G (k .state) w
   pub matrices : MatrixSame (k .state .depth) (k .state .stack) (k .state .projection) (k .state .combined) (k .matrices .used) (w .rsp .matrices)
   pub defined : D (k .state .defined) (w .rsp .matrices .mvp-valid)
-  pub geometry : G (k .state .geometry) (w .rsp .geom)
   pub view : P (k .state .viewport) (k .viewports .used) (w .rsp .viewports)
   pub lights : LightsSame (k .state .lights) (w .rsp .lighting)
   pub lookat : LookSame (k .state .lookat) (w .rsp .looking)
   pub slots : SlotsSame (k .state .row) (k .state .loaded) (k .state .drawn) (k .state .coded) (k .state .code) (k .state .deep) (k .state .z) (w .rsp .slots)
   pub scales : X (k .state .unit) (k .scales .used) (w .rsp .texcoords)
   pub rows : R (k .rows .used) (w .scene .columns)
-  pub light-table : k .lights .used ≡ map joined (w .scene .lights-table)
-  pub lookat-table : k .lookats .used ≡ map joined (w .scene .lookat-table)
-  pub fog-table : k .fogs .used ≡ w .scene .fog-table
-  pub fog-pairs : Wide 2 (w .scene .fog-table)
-  pub indices : k .indices .used ≡ map (λ (i : ℕ). i ∷ []) (w .scene .indices)
-  pub runs : k .runs .used ≡ map runNumbers (w .scene .draw-runs)
+  pub recorded : RecordedSame k (w .scene)
 
 -- THE TWO SIDES ARE THE SAME, from the offsets on
 abbrev pub Same : Offsets → Book → World → Type 0

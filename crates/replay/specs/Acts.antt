@@ -1,6 +1,6 @@
 -- What the driver does by itself. Definitions only.
 use Prim.Native.Nat.{ℕ, zero, suc, _%_}
-use mathlib.Core.Bool.{Bool, true, _&&_}
+use mathlib.Core.Bool.{true, _&&_}
 use mathlib.Core.List.{List, [], _∷_}
 use lib.ListN.{set, getD}
 use lib.Dec.{eqb}
@@ -8,7 +8,7 @@ use Rattle.areas.specs.Area.{put}
 use Rattle.decide.specs.Pick.{pick}
 use Rattle.stage.specs.declared.State.{State}
 use Rattle.stage.specs.declared.Counts.{Counts}
-use Rattle.stage.specs.With.{withModel, withLights, withNumber, withCounts, withSlots}
+use Rattle.stage.specs.With.{withOpened, withModel, withLights, withNumber, withCounts, withRow, withEver}
 use Rattle.replay.specs.declared.rooms.Lengths.{Lengths}
 use Rattle.replay.specs.declared.script.Call.{Call}
 
@@ -56,36 +56,6 @@ countsOf l =
       runs = getD l 8 0;
     }
 
--- a state marked as opened or not
-abbrev pub withOpened : State → Bool → State
-withOpened s b =
-    record {
-      opened = b;
-      microcode = s .microcode;
-      geometry = s .geometry;
-      fogmul = s .fogmul;
-      fogoff = s .fogoff;
-      depth = s .depth;
-      stack = s .stack;
-      projection = s .projection;
-      combined = s .combined;
-      defined = s .defined;
-      viewport = s .viewport;
-      texture = s .texture;
-      lights = s .lights;
-      lookat = s .lookat;
-      counts = s .counts;
-      unit = s .unit;
-      row = s .row;
-      ever = s .ever;
-      loaded = s .loaded;
-      drawn = s .drawn;
-      coded = s .coded;
-      code = s .code;
-      deep = s .deep;
-      z = s .z;
-    }
-
 -- what `poke` makes of a state, by field: opened, stack depth, light count, entries in use of table i, row of slot i
 abbrev pub pokedStates : State → ℕ → ℕ → List State
 pokedStates s i v =
@@ -93,7 +63,7 @@ pokedStates s i v =
     ∷ withModel s v (s .stack)
     ∷ withLights s (withNumber (s .lights) v)
     ∷ withCounts s (countsOf (countAfter i v (countList (s .counts))))
-    ∷ withSlots s (set (s .row) (i % 256) v) (set (s .ever) (i % 256) true) (s .loaded) (s .drawn) (s .coded) (s .code) (s .deep) (s .z)
+    ∷ withEver (withRow s (set (s .row) (i % 256) v)) (set (s .ever) (i % 256) true)
     ∷ []
 
 -- a field that there is not leaves the state as it is

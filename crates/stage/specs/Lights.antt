@@ -1,8 +1,7 @@
 -- The meaning of the commands of port order 4, texture, fog, lights and lookat, and of the microcode change. Definitions only.
 use Prim.Native.Nat.{ℕ, _+_}
-use mathlib.Core.Bool.{Bool, true, false}
+use mathlib.Core.Bool.{Bool, true}
 use mathlib.Core.List.{List, []}
-use lib.ListN.{replicate}
 use lib.Dec.{eqb}
 use lib.IntN.{ℤ}
 use lib.Ieee.{Float}
@@ -10,16 +9,14 @@ use Rattle.layout.specs.declared.records.Light.{Light}
 use Rattle.layout.specs.Layout.{colourAt, directionAt, lightAt}
 use Rattle.decide.specs.Lights.{slotted}
 use Rattle.stage.specs.declared.State.{State}
-use Rattle.stage.specs.declared.Counts.{Counts}
-use Rattle.stage.specs.declared.Texture.{Texture}
 use Rattle.stage.specs.declared.Lights.{Lights}
 use Rattle.stage.specs.declared.Lookat.{Lookat}
 use Rattle.stage.specs.declared.settings.Microcode.{Microcode}
 use Rattle.stage.specs.declared.settings.Microcode.the-variants.{F3dex2, F3dex2NoN}
-use Rattle.stage.specs.Opening.{zeros}
+use Rattle.stage.specs.Opening.{unloaded}
 use Rattle.stage.specs.Plan.{Plan, does, pick, needs, untouched}
 use Rattle.stage.specs.Sound.{sound}
-use Rattle.stage.specs.With.{withFog, withTexture, withLights, withLookat, withMicrocode, withNumber, withAmbient, withColumns, withAxes, marked}
+use Rattle.stage.specs.With.{Parts, partsOf, withFog, withTexture, withLights, withLookat, withMicrocode, undefined, withSlots, withNumber, withAmbient, withColumns, withAxes, marked}
 
 -- Texture: tile, level, on, sc and tc as given
 unfoldable pub texturePlan : State → ℕ → ℕ → Bool → ℕ → ℕ → Plan
@@ -74,13 +71,9 @@ abbrev pub microcodeNumber : Microcode → ℕ
 microcodeNumber F3dex2 = 0
 microcodeNumber F3dex2NoN = 1
 
--- no slot is marked
-abbrev pub unmarked : List Bool
-unmarked = replicate 256 false
-
--- the state after a microcode change: slots unloaded; codes, depths and drawn marks cleared; matrix undefined
+-- the state after a microcode change: matrix undefined; slots unloaded, their codes, depths and drawn marks cleared
 unfoldable pub switched : State → Microcode → State
-switched s m = withMicrocode s (microcodeNumber m) unmarked unmarked unmarked (replicate 256 0) unmarked (zeros 256)
+switched s m = withSlots (undefined (withMicrocode s (microcodeNumber m))) (unloaded (s .row) (s .ever))
 
 -- Microcode change
 unfoldable pub microcodePlan : State → Microcode → Plan
@@ -90,7 +83,6 @@ microcodePlan s m = sound s (does [] (switched s m) untouched)
 pub record Remains : Type 0 where
   pub row : List ℕ
   pub ever : List Bool
-  pub counts : Counts
   pub depth : ℕ
   pub stack : List Float
   pub projection : List Float
@@ -98,11 +90,7 @@ pub record Remains : Type 0 where
   pub geometry : ℕ
   pub fogmul : ℤ
   pub fogoff : ℤ
-  pub viewport : List Float
-  pub texture : Texture
-  pub lights : Lights
-  pub lookat : Lookat
-  pub unit : ℕ
+  pub parts : Parts
 
 -- what of a state remains so
 abbrev pub remains : State → Remains
@@ -110,7 +98,6 @@ remains s =
     record {
       row = s .row;
       ever = s .ever;
-      counts = s .counts;
       depth = s .depth;
       stack = s .stack;
       projection = s .projection;
@@ -118,9 +105,5 @@ remains s =
       geometry = s .geometry;
       fogmul = s .fogmul;
       fogoff = s .fogoff;
-      viewport = s .viewport;
-      texture = s .texture;
-      lights = s .lights;
-      lookat = s .lookat;
-      unit = s .unit;
+      parts = partsOf s;
     }

@@ -23,7 +23,7 @@ use Rattle.stage.specs.declared.Answer.{Answer}
 use Rattle.stage.specs.declared.Answer.the-variants.{BadModify, ShortArea, NoRoom, BadState}
 use Rattle.stage.specs.Plan.{Table, Edit, keep, grow, patch, Row, Edits, Plan, refuse, does, unless, pick, lent, judge, after, untouched, rowFloats, rowWords, only}
 use Rattle.stage.specs.Sound.{sound}
-use Rattle.stage.specs.With.{withUnit, withRows, withZ}
+use Rattle.stage.specs.With.{withUnit, withRow, withDrawn, withZ}
 
 -- edits of tables 3 and 7 alone
 abbrev pub edits37 : Edit (List Float) → Edit Row → Edits
@@ -70,7 +70,7 @@ rowEdit drawn i r = pick drawn (grow (r ∷ [])) (patch i r)
 unfoldable pub changed : Change → Moved → State → ℕ → State
 changed c m s slot =
     withUnit
-    (withZ (withRows s (set (s .row) slot (m .row)) (set (s .drawn) slot false)) (set (s .z) slot (depthAfter c (getD (s .deep) slot false) (getD (s .z) slot nan))))
+    (withZ (withDrawn (withRow s (set (s .row) slot (m .row))) (set (s .drawn) slot false)) (set (s .z) slot (depthAfter c (getD (s .deep) slot false) (getD (s .z) slot nan))))
     (m .unit)
 
 -- what the change does to table 7, and to tables 3 and 7

@@ -13,41 +13,34 @@ use Rattle.stage.specs.declared.Texture.{Texture}
 use Rattle.stage.specs.declared.Lights.{Lights}
 use Rattle.stage.specs.declared.Lookat.{Lookat}
 use Rattle.stage.specs.Plan.{Edits, Edit, keep, grow, Plan, does, judge, Outcome, settle, after, table, lent}
-use Rattle.stage.specs.With.{withModel, withProjection, withCombined}
+use Rattle.stage.specs.With.{Slots, state, withModel, withProjection, withCombined}
 
 -- n zeros
 abbrev pub zeros : ℕ → List Float
 zeros n = replicate n zero
 
+-- no slot is marked
+abbrev pub unmarked : List Bool
+unmarked = replicate 256 false
+
+-- slots at the rows r, of which those of v were ever loaded: none is loaded or drawn, and none has a code or a screen z
+abbrev pub unloaded : List ℕ → List Bool → Slots
+unloaded r v = record { row = r; ever = v; loaded = unmarked; drawn = unmarked; coded = unmarked; code = replicate 256 0; deep = unmarked; z = zeros 256 }
+
 -- a state that is not opened, or one that is, before any matrix: every number zero, every mark cleared, every slot empty
 unfoldable pub blank : Bool → State
 blank mark =
-    record {
-      opened = mark;
-      microcode = 0;
-      geometry = 0;
-      fogmul = pos 0;
-      fogoff = pos 0;
-      depth = 0;
-      stack = zeros 512;
-      projection = zeros 16;
-      combined = zeros 16;
-      defined = false;
+    state (record { opened = mark; microcode = 0; geometry = 0; fogmul = pos 0; fogoff = pos 0 })
+    (record { depth = 0; stack = zeros 512; projection = zeros 16; combined = zeros 16; defined = false })
+    (record {
       viewport = zeros 6;
       texture = record { tile = 0; level = 0; on = false; sc = 0; tc = 0 };
       lights = record { number = 0; directions = zeros 24; colours = zeros 24; ambient = zeros 3; changed = false; folded = false; top = zeros 16; first = 0 };
       lookat = record { axes = zeros 6; changed = false; folded = false; top = zeros 16; place = 0 };
       counts = record { matrices = 0; viewports = 0; scales = 0; lights = 0; lookats = 0; fogs = 0; rows = 0; indices = 0; runs = 0 };
       unit = 0;
-      row = replicate 256 0;
-      ever = replicate 256 false;
-      loaded = replicate 256 false;
-      drawn = replicate 256 false;
-      coded = replicate 256 false;
-      code = replicate 256 0;
-      deep = replicate 256 false;
-      z = zeros 256;
-    }
+    })
+    (unloaded (replicate 256 0) unmarked)
 
 -- one identity on the model stack; projection and combined matrix identity, undefined; all else zero
 unfoldable pub opened : State

@@ -18,14 +18,16 @@ use Rattle.stage.specs.With.{withSlots}
 unfoldable pub fillSlot : State → ℕ → ℕ → Slot → State
 fillSlot s k r v =
     withSlots s
-    (set (s .row) k r)
-    (set (s .ever) k true)
-    (set (s .loaded) k true)
-    (set (s .drawn) k false)
-    (set (s .coded) k (v .coded))
-    (set (s .code) k (v .code))
-    (set (s .deep) k (v .deep))
-    (set (s .z) k (v .z))
+    (record {
+      row = set (s .row) k r;
+      ever = set (s .ever) k true;
+      loaded = set (s .loaded) k true;
+      drawn = set (s .drawn) k false;
+      coded = set (s .coded) k (v .coded);
+      code = set (s .code) k (v .code);
+      deep = set (s .deep) k (v .deep);
+      z = set (s .z) k (v .z);
+    })
 
 -- a slot for each vertex from slot k on, their rows from row r on
 unfoldable pub fillSlots : State → List (List Float) → Shared → ℕ → ℕ → List Vertex → State
