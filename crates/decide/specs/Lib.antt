@@ -2,5 +2,4 @@ pub mod Append
 pub mod Family
 pub mod Judge
 pub mod Lights
-pub mod Pick
 pub mod Stack

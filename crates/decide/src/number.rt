@@ -1,7 +1,7 @@
 // Small choices between numbers.
 ghost use mathlib.Core.Path.{_≡_};
 ghost use Prim.Native.Nat.{_-_};
-ghost use Rattle.decide.specs.Pick.{pick};
+ghost use Rattle.numbers.specs.Choice.{pick};
 
 // x where b holds, else y.
 pub fn if_else(b: bool, x: u32, y: u32) -> u32

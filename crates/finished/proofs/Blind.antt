@@ -5,7 +5,7 @@ use Rattle.decide.specs.Family.{Family}
 use Rattle.stage.specs.declared.State.{State}
 use Rattle.stage.specs.With.{state, modesOf, matricesOf}
 use Rattle.sequence.specs.Sequence.{Command, matrix, force, pop, viewport, geometry, texture, fog, number, light, lookat, microcode, load, cull, depth, modify, draw, ink}
-use Rattle.finished.specs.Bench.{Bench, settles, corner, act}
+use Rattle.finished.specs.Bench.{Bench, settledValues, corner, act}
 
 -- a state without its counts, slots' columns and places of tables: what is left are values
 abbrev pub blanked : State → State
@@ -24,7 +24,7 @@ blanked s =
     (record { row = []; ever = []; loaded = []; drawn = []; coded = []; code = []; deep = []; z = [] })
 
 pub blind : (f : Family) (c : Command) (s t : State) (h : Bench) → act f c (blanked s) (blanked t) h ≡ act f c s t h
-unfolding act settles corner
+unfolding act settledValues corner
 blind f (matrix flags bytes at) s t h = refl
 blind f (force bytes at) s t h = refl
 blind f (pop count) s t h = refl

@@ -12,18 +12,18 @@ use lib.IntN.{ℤ}
 use lib.Ieee.{Float}
 use borrow.Author.Tests.{eqb-false}
 use Rattle.stage.specs.Plan.{Row, pick}
-use Rattle.finished.specs.Shown.{Entries, fogShown, shownBy, word, shown}
+use Rattle.finished.specs.Shown.{Entries, fogShown, shownBy, rowWord, shown}
 use Rattle.finished.proofs.Lists.{Longer, longer-length, longer-at, longer-part}
 
 -- a row has its ten words, and its table numbers are in use
 pub record Sound (t : Entries) (r : Row) : Type 0 where
   pub wide : length (r .words) ≡ 10
-  pub matrix : word r 1 < length (t .matrices)
-  pub viewport : word r 2 < length (t .viewports)
-  pub scale : word r 3 < length (t .scales)
-  pub lights : word r 5 + word r 6 ≤ length (t .lights)
-  pub fog : word r 8 ≤ length (t .fogs)
-  pub lookat : word r 7 ≢ 0 → word r 9 < length (t .lookats)
+  pub matrix : rowWord r 1 < length (t .matrices)
+  pub viewport : rowWord r 2 < length (t .viewports)
+  pub scale : rowWord r 3 < length (t .scales)
+  pub lights : rowWord r 5 + rowWord r 6 ≤ length (t .lights)
+  pub fog : rowWord r 8 ≤ length (t .fogs)
+  pub lookat : rowWord r 7 ≢ 0 → rowWord r 9 < length (t .lookats)
 
 -- each table goes on
 pub record Grown (t u : Entries) : Type 0 where
@@ -52,15 +52,15 @@ unfolding shown shownBy
 shown-stays {t} {u} r g s = λ i.
     record {
       floats = r .floats;
-      flags = word r 0;
-      matrix = longer-at (g .matrices) [] (word r 1) (s .matrix) i;
-      viewport = longer-at (g .viewports) [] (word r 2) (s .viewport) i;
-      scale = longer-at (g .scales) [] (word r 3) (s .scale) i;
-      colour = word r 4;
-      lights = longer-part (g .lights) (word r 5) (word r 6) (s .lights) i;
-      texgen = word r 7;
-      fog = fog-stays (g .fogs) (word r 8) (s .fog) i;
-      lookat = lookat-stays (g .lookats) (word r 7) (word r 9) (s .lookat) i;
+      flags = rowWord r 0;
+      matrix = longer-at (g .matrices) [] (rowWord r 1) (s .matrix) i;
+      viewport = longer-at (g .viewports) [] (rowWord r 2) (s .viewport) i;
+      scale = longer-at (g .scales) [] (rowWord r 3) (s .scale) i;
+      colour = rowWord r 4;
+      lights = longer-part (g .lights) (rowWord r 5) (rowWord r 6) (s .lights) i;
+      texgen = rowWord r 7;
+      fog = fog-stays (g .fogs) (rowWord r 8) (s .fog) i;
+      lookat = lookat-stays (g .lookats) (rowWord r 7) (rowWord r 9) (s .lookat) i;
     }
 
 pub sound-stays : {t u : Entries} (r : Row) → Grown t u → Sound t r → Sound u r

@@ -17,7 +17,7 @@ use Rattle.vertex.specs.declared.Shared.{Shared}
 use Rattle.vertex.specs.Vertices.{floatsOf, wordsOf, slotOf}
 use Rattle.stage.specs.declared.State.{State}
 use Rattle.stage.specs.Plan.{Row, pick}
-use Rattle.stage.specs.Load.{fogPair, rowOf}
+use Rattle.stage.specs.Load.{fogPair, vertexRow}
 use Rattle.stage.specs.Rows.{fillSlot, fillSlots}
 use Rattle.finished.specs.Shown.{Corner, Entries, Triangle, fogShown, shown, shownBy}
 use Rattle.finished.specs.Bench.{Values, corner, seated}
@@ -37,7 +37,7 @@ pub record Shares (f : Family) (s : State) (t : Entries) (e : Shared) (h : Value
 
 module _ (f : Family) (s : State) (t : Entries) (e : Shared) (h : Values) (S : Shares f s t e h) where
   -- a row of the load has its table numbers in use
-  row-sound : (v : Vertex) → Sound t (rowOf e v)
+  row-sound : (v : Vertex) → Sound t (vertexRow e v)
   unfolding wordsOf
   row-sound v =
       record {
@@ -56,7 +56,7 @@ module _ (f : Family) (s : State) (t : Entries) (e : Shared) (h : Values) (S : S
   looks false q = ap some (S .lookat (eqb-false (texgenMode f (s .geometry)) 0 q) .1)
 
   -- it shows the vertex by value
-  row-shown : (v : Vertex) → shown t (rowOf e v) ≡ corner f s h v
+  row-shown : (v : Vertex) → shown t (vertexRow e v) ≡ corner f s h v
   unfolding shown shownBy corner wordsOf
   row-shown v = λ i.
       record {
@@ -75,11 +75,11 @@ module _ (f : Family) (s : State) (t : Entries) (e : Shared) (h : Values) (S : S
   -- vertex by vertex: rows behind those in use, slots from k on
   pub rows-loaded : (m : List (List Float)) (slots : ℕ) (vs : List Vertex) (u : State) (rows : List Row) (indices runs : List (List ℕ)) (l : List Corner) (ts : List Triangle) (k : ℕ)
       → Standing slots t rows indices runs (partsOf u .columns) l ts → k + length vs ≤ slots
-      → Standing slots t (rows ++ map (rowOf e) vs) indices runs (partsOf (fillSlots u m e k (length rows) vs) .columns) (seated l k (map (corner f s h) vs)) ts
+      → Standing slots t (rows ++ map (vertexRow e) vs) indices runs (partsOf (fillSlots u m e k (length rows) vs) .columns) (seated l k (map (corner f s h) vs)) ts
   unfolding fillSlots fillSlot
   rows-loaded m slots [] u rows indices runs l ts k I r = rw (append-nil rows) I
   rows-loaded m slots (v ∷ vs) u rows indices runs l ts k I r =
-      let J = row-filled I k (rowOf e v) (omega arith) (row-sound v) in
-      let n : length (rows ++ rowOf e v ∷ []) ≡ length rows + 1 = length-append rows (rowOf e v ∷ []) in
-      let K = rows-loaded m slots vs (fillSlot u k (length rows) (slotOf m e v)) (rows ++ rowOf e v ∷ []) indices runs (set l k (shown t (rowOf e v))) ts (k + 1) J (omega arith) in
-      rw (append-assoc rows (rowOf e v ∷ []) (map (rowOf e) vs), n, row-shown v) at K
+      let J = row-filled I k (vertexRow e v) (omega arith) (row-sound v) in
+      let n : length (rows ++ vertexRow e v ∷ []) ≡ length rows + 1 = length-append rows (vertexRow e v ∷ []) in
+      let K = rows-loaded m slots vs (fillSlot u k (length rows) (slotOf m e v)) (rows ++ vertexRow e v ∷ []) indices runs (set l k (shown t (vertexRow e v))) ts (k + 1) J (omega arith) in
+      rw (append-assoc rows (vertexRow e v ∷ []) (map (vertexRow e) vs), n, row-shown v) at K

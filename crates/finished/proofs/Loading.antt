@@ -18,13 +18,13 @@ use Rattle.vertex.specs.Vertices.{slotOf}
 use Rattle.stage.specs.declared.State.{State}
 use Rattle.stage.specs.declared.load.Settled.{Settled}
 use Rattle.stage.specs.Plan.{Edits}
-use Rattle.stage.specs.Matrices.{top}
+use Rattle.stage.specs.Matrices.{modelTop}
 use Rattle.stage.specs.Load.{combinedNow, fogPair, settled, settledState, sharedBy, loadEdits}
 use Rattle.stage.specs.Rows.{fillSlot, fillSlots}
 use Rattle.sequence.specs.Sequence.{Book}
 use Rattle.sequence.proofs.Turn.{edit, enter}
 use Rattle.finished.specs.Shown.{Entries, entriesOf}
-use Rattle.finished.specs.Bench.{Values, Bench, settles, corner, seated, loads}
+use Rattle.finished.specs.Bench.{Values, Bench, settledValues, corner, seated, loads}
 use Rattle.finished.proofs.Lists.{longer-length, longer-at, same}
 use Rattle.finished.proofs.Growing.{Grown}
 use Rattle.finished.proofs.Standing.{Standing, tables-grow}
@@ -62,7 +62,7 @@ module _ (f : Family) (slots : ℕ) (k : Book) (h : Bench) (I : Inv slots k h) (
 
   -- the values that the bench holds then
   g : Values
-  g = settles f (k .state) (h .values)
+  g = settledValues f (k .state) (h .values)
 
   tables : Grown (entriesOf k) t
   unfolding t loadEdits
@@ -77,12 +77,12 @@ module _ (f : Family) (slots : ℕ) (k : Book) (h : Bench) (I : Inv slots k h) (
       }
 
   -- the lights that are appended where they are due: one more than their number
-  light-count : length (lightEntries (rows (laid (top (k .state))) 0) (k .state .lights .directions) (k .state .lights .colours) (k .state .lights .ambient) (k .state .lights .number)) ≡ k .state .lights .number + 1
+  light-count : length (lightEntries (rows (laid (modelTop (k .state))) 0) (k .state .lights .directions) (k .state .lights .colours) (k .state .lights .ambient) (k .state .lights .number)) ≡ k .state .lights .number + 1
   light-count = length-lights _ _ _ _ _
 
   -- the values that the bench holds then are those of the tables
   current : CurrentIn t (partsOf (settledState d (k .state))) g
-  unfolding t g loadEdits settled settledState settles
+  unfolding t g loadEdits settled settledState settledValues
   current =
       let c = I .ties .current in
       let n = I .count in
@@ -92,15 +92,15 @@ module _ (f : Family) (slots : ℕ) (k : Book) (h : Bench) (I : Inv slots k h) (
         some-viewport = c .some-viewport;
         viewport = c .viewport;
         scale = rw (c .scale) (sym (scale-settled (k .scales .used) (k .state .texture .sc) (k .state .texture .tc) .0));
-        lights = lights-settled (k .lights .used) _ (h .values .lights) (k .state .lights) (laid (top (k .state))) (k .state .counts .lights) (n .lights) light-count _ (c .lights);
-        lookat = lookat-settled (k .lookats .used) _ (h .values .lookat) (k .state .lookat) (laid (top (k .state))) (k .state .counts .lookats) (n .lookats) _ (c .lookat);
+        lights = lights-settled (k .lights .used) _ (h .values .lights) (k .state .lights) (laid (modelTop (k .state))) (k .state .counts .lights) (n .lights) light-count _ (c .lights);
+        lookat = lookat-settled (k .lookats .used) _ (h .values .lookat) (k .state .lookat) (laid (modelTop (k .state))) (k .state .counts .lookats) (n .lookats) _ (c .lookat);
         mark = c .mark;
         unit = λ z. let q = c .unit z in (omega (arith, q .0, longer-length (tables .scales)), longer-at (tables .scales) [] (k .state .unit - 1) (q .0) ∙ q .1);
       }
 
   -- what the rows share stands in the tables
   shares : Shares f (k .state) t (sharedBy d (k .state)) g
-  unfolding t g loadEdits settled sharedBy settles
+  unfolding t g loadEdits settled sharedBy settledValues
   shares =
       let c = I .ties .current in
       let n = I .count in
@@ -110,10 +110,10 @@ module _ (f : Family) (slots : ℕ) (k : Book) (h : Bench) (I : Inv slots k h) (
         matrix = (omega (arith, c .some-matrix, longer-length (tables .matrices), lm), rw (← lm) (sym (current .matrix)));
         viewport = (omega (arith, c .some-viewport, n .viewports), rw (← (n .viewports)) (sym (c .viewport)));
         scale = (omega (arith, scale-settled (k .scales .used) (k .state .texture .sc) (k .state .texture .tc) .1, ls), rw (← ls) (sym (current .scale)));
-        lights = lights-shared (k .lights .used) _ (h .values .lights) (k .state .lights) (laid (top (k .state))) (k .state .counts .lights) (n .lights) light-count (lit f (k .state .geometry)) _ (c .lights);
+        lights = lights-shared (k .lights .used) _ (h .values .lights) (k .state .lights) (laid (modelTop (k .state))) (k .state .counts .lights) (n .lights) light-count (lit f (k .state .geometry)) _ (c .lights);
         texgen = refl;
         fog = fog-settled (k .fogs .used) (fogPair (k .state)) (flag (f .fog) (k .state .geometry));
-        lookat = λ z. lookat-shared (k .lookats .used) _ (h .values .lookat) (k .state .lookat) (laid (top (k .state))) (k .state .counts .lookats) (n .lookats) (eqb (texgenMode f (k .state .geometry)) 0) _ (ne-eqb _ 0 z) (c .lookat);
+        lookat = λ z. lookat-shared (k .lookats .used) _ (h .values .lookat) (k .state .lookat) (laid (modelTop (k .state))) (k .state .counts .lookats) (n .lookats) (eqb (texgenMode f (k .state .geometry)) 0) _ (ne-eqb _ 0 z) (c .lookat);
       }
 
   -- slots, rows and triangles then
@@ -130,8 +130,8 @@ module _ (f : Family) (slots : ℕ) (k : Book) (h : Bench) (I : Inv slots k h) (
 
   -- THE INVARIANT AFTER A LOAD
   pub load-keeps : (first : ℕ) → first + length vs ≤ slots
-      → Inv slots (enter (fillSlots (settledState d (k .state)) (rows (d .combined) 0) (sharedBy d (k .state)) first (k .state .counts .rows) vs) e k) (loads f (k .state) first vs (settles f (k .state) (h .values)) h)
-  unfolding t g settles loadEdits fillSlot
+      → Inv slots (enter (fillSlots (settledState d (k .state)) (rows (d .combined) 0) (sharedBy d (k .state)) first (k .state .counts .rows) vs) e k) (loads f (k .state) first vs (settledValues f (k .state) (h .values)) h)
+  unfolding t g settledValues loadEdits fillSlot
   load-keeps first fits =
       let u : State = settledState d (k .state) in
       let m : List (List Float) = rows (d .combined) 0 in

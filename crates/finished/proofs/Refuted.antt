@@ -20,7 +20,7 @@ use Rattle.change.specs.Judged.{appends, comesTo}
 use Rattle.triangle.specs.Run.{closed, sameRun}
 use Rattle.triangle.specs.Slot.{held}
 use Rattle.stage.specs.declared.settings.Microcode.the-variants.{F3dex2}
-use Rattle.stage.specs.Plan.{pick, unless, settle, appended, appending}
+use Rattle.stage.specs.Plan.{pick, unless, carry, appended, appending}
 use Rattle.stage.specs.Sound.{all, stateSound}
 use Rattle.stage.specs.Opening.{zeros, blank, openingPlan}
 use Rattle.stage.specs.Opening as start
@@ -31,7 +31,7 @@ use Rattle.stage.specs.Modify.{asking, changed, changePlan, modifyPlan}
 use Rattle.stage.specs.Draw.{runEdit, drawPlan}
 use Rattle.sequence.specs.Sequence.{Command, load, modify, draw, microcode, Areas, Book, Alike, book, plan, result, step, run, opening}
 use Rattle.finished.specs.Shown.{Triangle, shown, shownBy, settingsAt, cornerOf, triangleOf}
-use Rattle.finished.specs.Bench.{noCorner, bench0, settles, corner, changedBy, modifies, act, obey, bench}
+use Rattle.finished.specs.Bench.{noCorner, bench0, settledValues, corner, changedBy, modifies, act, obey, bench}
 use Rattle.finished.specs.Statement.{Finished}
 use Rattle.finished.specs.Broken.{Rules, under, inPlace, keepsLoaded, marksTwo, sharesRow, mergesRuns}
 
@@ -79,7 +79,7 @@ alike =
 
 -- THE THEOREM IS FALSE OF EACH: it refuses all five
 pub refuted : (AllFinished inPlace → ⊥) × (AllFinished keepsLoaded → ⊥) × (AllFinished marksTwo → ⊥) × (AllFinished sharesRow → ⊥) × (AllFinished mergesRuns → ⊥)
-unfolding inPlace keepsLoaded marksTwo sharesRow mergesRuns areas loaded drawn recoloured under plan result step run opening book shown shownBy settingsAt cornerOf triangleOf bench0 settles corner changedBy modifies act obey bench ofRatio rowTimes times rows laid codeOf depthOf vertexAt tripleAt put write matches texgenMode find sameScale refold floatsOf wordsOf clipOf slotAt slotOf verticesAt decoded floatsAfter wordsAfter depthAfter appends comesTo closed sameRun held pick unless settle appended appending all stateSound blank openingPlan start.opened settled settledState sharedBy loadEdits loadPlan switched microcodePlan fillSlot fillSlots asking changed changePlan modifyPlan runEdit drawPlan add mul div neg lt le eq ne
+unfolding inPlace keepsLoaded marksTwo sharesRow mergesRuns areas loaded drawn recoloured under plan result step run opening book shown shownBy settingsAt cornerOf triangleOf bench0 settledValues corner changedBy modifies act obey bench ofRatio rowTimes times rows laid codeOf depthOf vertexAt tripleAt put write matches texgenMode find sameScale refold floatsOf wordsOf clipOf slotAt slotOf verticesAt decoded floatsAfter wordsAfter depthAfter appends comesTo closed sameRun held pick unless carry appended appending all stateSound blank openingPlan start.opened settled settledState sharedBy loadEdits loadPlan switched microcodePlan fillSlot fillSlots asking changed changePlan modifyPlan runEdit drawPlan add mul div neg lt le eq ne
 refuted = (
   λ h. let q : _≡_ {A = ℕ} 0x07000000 0 = ap (colourOf 1) (h areas areas alike (loaded ∷ drawn 0 ∷ []) (recoloured 1 ∷ []) [] 0 (omega arith) .0 .shows) in omega (arith, q),
   λ h. let q : _≡_ {A = ℕ} 0x07000000 0 = ap (colourOf 1) (h areas areas alike (loaded ∷ drawn 0 ∷ []) (microcode F3dex2 ∷ recoloured 1 ∷ []) [] 0 (omega arith) .0 .shows) in omega (arith, q),

@@ -10,7 +10,7 @@ use lib.Bits.{bitOr}
 use lib.Dec.{eqb}
 use lib.Ieee.{Float, eq}
 use Rattle.areas.specs.Area.{matches}
-use Rattle.matrix.specs.Math.{unit, rows, laid}
+use Rattle.matrix.specs.Math.{identity, rows, laid}
 use Rattle.layout.specs.declared.records.Vertex.{Vertex}
 use Rattle.decide.specs.Family.{Family, flag, lit, texgenMode}
 use Rattle.fold.specs.Decision.{refold}
@@ -29,7 +29,7 @@ use Rattle.triangle.specs.Slot.{both, culls, swaps}
 use Rattle.stage.specs.declared.State.{State}
 use Rattle.stage.specs.Plan.{Plan, refuse, does, pick}
 use Rattle.stage.specs.Opening.{zeros}
-use Rattle.stage.specs.Matrices.{top}
+use Rattle.stage.specs.Matrices.{modelTop}
 use Rattle.stage.specs.Load.{combinedNow, fogPair}
 use Rattle.sequence.specs.Sequence.{Command, matrix, force, pop, viewport, geometry, texture, fog, number, light, lookat, microcode, load, cull, depth, modify, draw, ink, Port, Machine, book, step}
 use Rattle.finished.specs.Shown.{Corner, Triangle}
@@ -72,7 +72,7 @@ unfoldable pub bench0 : ℕ → Bench
 bench0 slots =
     record {
       slots = replicate slots noCorner;
-      values = record { matrix = laid unit; viewport = zeros 6; scale = []; lights = []; lookat = []; unit = false };
+      values = record { matrix = laid identity; viewport = zeros 6; scale = []; lights = []; lookat = []; unit = false };
       triangles = [];
     }
 
@@ -113,20 +113,20 @@ rescaled last new = pick (matches eq (take 2 last) (take 2 new)) last new
 
 -- lights, or lookat axes, are folded when none are yet, when marked changed, or when the model top compares unequal to the one last folded
 abbrev pub lightsDue : Family → State → Bool
-lightsDue f s = lit f (s .geometry) && refold (s .lights .folded) (s .lights .changed) (s .lights .top) (laid (top s))
+lightsDue f s = lit f (s .geometry) && refold (s .lights .folded) (s .lights .changed) (s .lights .top) (laid (modelTop s))
 
 abbrev pub lookatDue : Family → State → Bool
-lookatDue f s = not (eqb (texgenMode f (s .geometry)) 0) && refold (s .lookat .folded) (s .lookat .changed) (s .lookat .top) (laid (top s))
+lookatDue f s = not (eqb (texgenMode f (s .geometry)) 0) && refold (s .lookat .folded) (s .lookat .changed) (s .lookat .top) (laid (modelTop s))
 
 -- what a load settles before its vertices
-unfoldable pub settles : Family → State → Values → Values
-settles f s v =
+unfoldable pub settledValues : Family → State → Values → Values
+settledValues f s v =
     record {
       matrix = pick (s .defined) (v .matrix) (renewed (v .matrix) (combinedNow s));
       viewport = v .viewport;
       scale = rescaled (v .scale) (scaleEntry (s .texture .sc) (s .texture .tc));
-      lights = pick (lightsDue f s) (lightEntries (rows (laid (top s)) 0) (s .lights .directions) (s .lights .colours) (s .lights .ambient) (s .lights .number)) (v .lights);
-      lookat = pick (lookatDue f s) (lookatEntry (rows (laid (top s)) 0) (s .lookat .axes)) (v .lookat);
+      lights = pick (lightsDue f s) (lightEntries (rows (laid (modelTop s)) 0) (s .lights .directions) (s .lights .colours) (s .lights .ambient) (s .lights .number)) (v .lights);
+      lookat = pick (lookatDue f s) (lookatEntry (rows (laid (modelTop s)) 0) (s .lookat .axes)) (v .lookat);
       unit = v .unit;
     }
 
@@ -255,7 +255,7 @@ act f (number bytes) s t h = h
 act f (light slot bytes at) s t h = h
 act f (lookat slot bytes at) s t h = h
 act f (microcode to) s t h = h
-act f (load first count bytes at) s t h = loads f s first (verticesAt bytes at count) (settles f s (h .values)) h
+act f (load first count bytes at) s t h = loads f s first (verticesAt bytes at count) (settledValues f s (h .values)) h
 act f (cull first last) s t h = h
 act f (depth slot threshold) s t h = h
 act f (modify slot attribute value) s t h = modifies (decoded attribute value) slot h

@@ -70,12 +70,12 @@ shownBy t floats flags matrix viewport scale colour first count texgen fog looka
     }
 
 -- number i of a row's ten u32
-abbrev pub word : Row → ℕ → ℕ
-word r i = getD (r .words) i 0
+abbrev pub rowWord : Row → ℕ → ℕ
+rowWord r i = getD (r .words) i 0
 
 -- a corner shown: modify flags, matrix, viewport, texture scale, colour word, first light, light count, texgen mode, fog, lookat
 unfoldable pub shown : Entries → Row → Corner
-shown t r = shownBy t (r .floats) (word r 0) (word r 1) (word r 2) (word r 3) (word r 4) (word r 5) (word r 6) (word r 7) (word r 8) (word r 9)
+shown t r = shownBy t (r .floats) (rowWord r 0) (rowWord r 1) (rowWord r 2) (rowWord r 3) (rowWord r 4) (rowWord r 5) (rowWord r 6) (rowWord r 7) (rowWord r 8) (rowWord r 9)
 
 -- a triangle by value
 pub record Triangle : Type 0 where

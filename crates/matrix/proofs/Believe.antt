@@ -20,7 +20,7 @@ use denote.Shadow.{shadow}
 use Rattle.matrix.specs.declared.clip.ClipCode.{ClipCode}
 use Rattle.matrix.specs.declared.clip.ScreenZ.{ScreenZ}
 use Rattle.matrix.specs.Math
-use Rattle.matrix.specs.Math.{at, row, cell, unit, column, rowTimes, times, four, rows, laid}
+use Rattle.matrix.specs.Math.{at, row, cell, identity, column, rowTimes, times, four, rows, laid}
 use Rattle.matrix.specs.Clip.{bitsOf, allFinite, codeOf, screenOf, depthOf}
 
 -- ---- four of a kind
@@ -101,8 +101,8 @@ pub square : (a b c d : List Float) → length a ≡ 4 → length b ≡ 4 → le
 square a b c d p q r s = record { count = refl; width = below-four (λ i. length (row (a ∷ b ∷ c ∷ d ∷ []) i) ≡ 4) p q r s }
 
 -- the identity is a square
-pub unit-square : Square unit
-unit-square = square _ _ _ _ refl refl refl refl
+pub identity-square : Square identity
+identity-square = square _ _ _ _ refl refl refl refl
 
 -- a product is a square, whatever the factors
 pub times-square : (a b : List (List Float)) → Square (times a b)

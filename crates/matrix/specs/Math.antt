@@ -24,8 +24,8 @@ abbrev pub cell : List (List Float) → ℕ → ℕ → Float
 cell m i j = at (row m i) j
 
 -- the identity
-abbrev pub unit : List (List Float)
-unit =
+abbrev pub identity : List (List Float)
+identity =
     (one ∷ zero ∷ zero ∷ zero ∷ [])
     ∷ (zero ∷ one ∷ zero ∷ zero ∷ [])
     ∷ (zero ∷ zero ∷ one ∷ zero ∷ [])

@@ -1,10 +1,10 @@
 // Row-vector matrix products. Sums go from left to right, each operation rounded once, never fused.
 ghost use mathlib.Core.Path.{_≡_};
 ghost use Prim.Native.Nat.{_<_};
-ghost use Rattle.matrix.specs.Math.{unit, column, rowTimes, dot, colTimes, times, laid, rows};
+ghost use Rattle.matrix.specs.Math.{identity, column, rowTimes, dot, colTimes, times, laid, rows};
 
 pub fn identity() -> [[f32; 4]; 4]
-    ensures { λ r. ⌜ r ≡ unit ⌝ }
+    ensures { λ r. ⌜ r ≡ identity ⌝ }
 {
     [
         [1.0, 0.0, 0.0, 0.0],

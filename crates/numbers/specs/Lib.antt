@@ -1,3 +1,4 @@
+pub mod Choice
 pub mod Length
 pub mod Ratio
 pub mod Sqrt

@@ -16,7 +16,7 @@ use lib.Ieee.{Float, nan, neg, lt, eq, ne}
 use lib.Ieee.Scale.{finite}
 use borrow.Author.Tests.{ltb-true, ltb-false, lt-ltb, ne-eqb}
 use Rattle.areas.specs.Area.{matches, Wide}
-use Rattle.matrix.specs.Math.{unit, times, rowTimes, colTimes, laid}
+use Rattle.matrix.specs.Math.{identity as identity′, times, rowTimes, colTimes, laid}
 use Rattle.matrix.specs.Clip.{bitOf, bitsOf, allFinite, codeOf, screenOf, depthOf}
 use Rattle.matrix.specs.declared.clip.ClipCode.{ClipCode}
 use Rattle.matrix.specs.declared.clip.ScreenZ.{ScreenZ}
@@ -174,7 +174,7 @@ unfolding unit-length mul-col-vec3 folded colTimes
 folded-same m v = refl
 
 -- the identity
-pub identity-same : identity ≡ unit
+pub identity-same : identity ≡ identity′
 identity-same = refl
 
 -- ---- comparisons

@@ -15,7 +15,7 @@ use Rattle.matrix.specs.Math.{times, rows, laid}
 use Rattle.stage.specs.declared.State.{State}
 use Rattle.stage.specs.Plan.{Plan, refuse, does, Edit, Edits, keep, grow, Row, pick, advance}
 use Rattle.stage.specs.With.{withCounts, withModel, withProjection, withCombined}
-use Rattle.stage.specs.Matrices.{edits1, top, combine, turned}
+use Rattle.stage.specs.Matrices.{edits1, modelTop, combine, turned}
 use Rattle.sequence.specs.Sequence.{Command, matrix, force, pop, Book, plan}
 use Rattle.sequence.proofs.Turn.{edit, edited, enter}
 use Rattle.sequence.proofs.Counted.{counted-then}
@@ -132,13 +132,13 @@ module _ {D : Bool → Bool → Type 0} {G : ℕ → ℕ → Type 0} {P : List F
   -- a state s of the same counts, and matrices m before they are recomputed
   recomputed : (s : State) (m : Matrices) (c : Command) → Near D G P X R (withState k s) (withMatrices w m) → s .counts ≡ k .state .counts
       → execute c w ≡ Ok (record { values = []; world = withMatrices w (recompute-mvp m) })
-      → Accepted (λ vs t e. Agrees (Near _≡_ G P X R) vs (enter t e k) (execute c w)) (combine s (k .matrices) (laid (times (top s) (rows (s .projection) 0))))
+      → Accepted (λ vs t e. Agrees (Near _≡_ G P X R) vs (enter t e k) (execute c w)) (combine s (k .matrices) (laid (times (modelTop s) (rows (s .projection) 0))))
   recomputed s m c n q x =
       accepted-map _ _
       (λ vs t e a.
       rw (x, recompute-is m)
       (a .0, subst (λ (b : Book). Near _≡_ G P X R b (withMatrices w (combined-by (mul4 (mv-top m) (m .viewproj)) m))) (entered s t e q) (a .1)))
-      _ (combine-agrees n (mul4 (mv-top m) (m .viewproj)) (laid (times (top s) (rows (s .projection) 0))) (product-same (n .matrices)))
+      _ (combine-agrees n (mul4 (mv-top m) (m .viewproj)) (laid (times (modelTop s) (rows (s .projection) 0))) (product-same (n .matrices)))
 
   module _ (flags : ℕ) (bytes : List ℕ) (at : ℕ) (I : Data bytes) (fits : at + 64 ≤ length bytes) where
     read : read-matrix bytes at ≡ matrixAt bytes at
@@ -146,7 +146,7 @@ module _ {D : Bool → Bool → Type 0} {G : ℕ → ℕ → Type 0} {P : List F
 
     abbrev Turns : State → Type 0
     Turns u =
-        Accepted (λ vs t e. Agrees (Near _≡_ G P X R) vs (enter t e k) (execute (matrix flags bytes at) w)) (combine u (k .matrices) (laid (times (top u) (rows (u .projection) 0))))
+        Accepted (λ vs t e. Agrees (Near _≡_ G P X R) vs (enter t e k) (execute (matrix flags bytes at) w)) (combine u (k .matrices) (laid (times (modelTop u) (rows (u .projection) 0))))
 
     turns-projection : flag (f3dex2 .projection) flags ≡ true
         → Turns (withProjection (k .state) (laid (made (flag (f3dex2 .load) flags) (matrixAt bytes at) (rows (k .state .projection) 0))))
@@ -159,7 +159,7 @@ module _ {D : Bool → Bool → Type 0} {G : ℕ → ℕ → Type 0} {P : List F
         refl (rw (has-projection flags, e, has-load flags, read))
 
     turns-model : flag (f3dex2 .projection) flags ≡ false
-        → Turns (withModel (k .state) (pushed (flag (f3dex2 .push) flags) (k .state .depth)) (put (k .state .stack) (16 * (pushed (flag (f3dex2 .push) flags) (k .state .depth) - 1)) (laid (made (flag (f3dex2 .load) flags) (matrixAt bytes at) (top (k .state))))))
+        → Turns (withModel (k .state) (pushed (flag (f3dex2 .push) flags) (k .state .depth)) (put (k .state .stack) (16 * (pushed (flag (f3dex2 .push) flags) (k .state .depth) - 1)) (laid (made (flag (f3dex2 .load) flags) (matrixAt bytes at) (modelTop (k .state))))))
     unfolding execute matrix-fn
     turns-model e =
         recomputed _
@@ -226,7 +226,7 @@ module _ {D : Bool → Bool → Type 0} {G : ℕ → ℕ → Type 0} {P : List F
       (λ q.
       rw (tested ∙ q) (refl, N))
       (λ q s z.
-      subst (λ (u : State). Accepted (λ vs t e. Agrees (Near D G P X R) vs (enter t e k) (execute (pop count) w)) (combine u (k .matrices) (laid (times (top u) (rows (u .projection) 0))))) (sym z)
+      subst (λ (u : State). Accepted (λ vs t e. Agrees (Near D G P X R) vs (enter t e k) (execute (pop count) w)) (combine u (k .matrices) (laid (times (modelTop u) (rows (u .projection) 0))))) (sym z)
       (accepted-map _ _ (λ vs t e. weaken vs (enter t e k) (execute (pop count) w))
       _ (recomputed (withModel (k .state) (popped count (k .state .depth)) (k .state .stack)) (with-stack (w .rsp .matrices) (w .rsp .matrices .model-stack) (popped count (k .state .depth))) (pop count)
       (turned-near N _ _ refl refl (depth-lowered (N .matrices) (popped count (k .state .depth)) (in-range .0) (in-range .1)))

@@ -5,7 +5,7 @@ use mathlib.Core.List.{List, [], _∷_}
 use Rattle.decide.specs.Stack.{geometryAfter, relit}
 use Rattle.decide.specs.Family.{f3dex2}
 use Rattle.stage.specs.declared.State.{State}
-use Rattle.stage.specs.Plan.{Plan, refuse, does, Edits, settle}
+use Rattle.stage.specs.Plan.{Plan, refuse, does, Edits, carry}
 use Rattle.sequence.specs.Sequence.{Command, matrix, force, pop, viewport, geometry, texture, fog, number, light, lookat, microcode, load, cull, depth, modify, draw, ink, Port, Book, book, afterAll, result, step}
 use Rattle.sequence.proofs.Turn.{enter, turn, course}
 use Rattle.sequence.proofs.Held.{Fits, step-book}
@@ -66,10 +66,10 @@ tellings (c ∷ cs) k = tells (stage c k) ∷ tellings cs (turn (stage c k) k)
 
 -- the answer's values are what the plan tells
 answer-tells : (c : Command) (p : Port) → result stage c p .values ≡ tells (stage c (book p))
-unfolding result settle
+unfolding result carry
 answer-tells c p = of (stage c (book p))
   where
-    of : (q : Plan) → settle afterAll q (p .state) (p .areas) .values ≡ tells q
+    of : (q : Plan) → carry afterAll q (p .state) (p .areas) .values ≡ tells q
     of (refuse n vs) = refl
     of (does vs t e) = refl
 

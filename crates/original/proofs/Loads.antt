@@ -21,9 +21,9 @@ use Rattle.vertex.specs.Vertices.{slotOf, verticesAt}
 use Rattle.stage.specs.declared.State.{State}
 use Rattle.stage.specs.declared.load.Settled.{Settled}
 use Rattle.stage.specs.Plan.{Row, pick, counted}
-use Rattle.stage.specs.Matrices.{top}
+use Rattle.stage.specs.Matrices.{modelTop}
 use Rattle.stage.specs.With.{withSlots, slotsOf}
-use Rattle.stage.specs.Load.{onlyIf, lightsThen, lookatThen, settled, settledState, sharedBy, rowOf, loadEdits}
+use Rattle.stage.specs.Load.{onlyIf, lightsThen, lookatThen, settled, settledState, sharedBy, vertexRow, loadEdits}
 use Rattle.stage.specs.Rows.{fillSlot, fillSlots}
 use Rattle.sequence.specs.Sequence.{load, Book, loadOf, plan}
 use Rattle.sequence.proofs.Turn.{edit, enter}
@@ -163,7 +163,7 @@ module _ {X : ℕ → List (List Float) → Texcoords → Type 0} {R : List Row 
   abbrev x : Sharing
   x = sharing-of r (w .scene) (w .fog-mul) (w .fog-offset)
 
-  matrices-then : MatrixSame (k .state .depth) (k .state .stack) (k .state .projection) (d .combined) (edit (onlyIf (d .matrix) (d .combined ∷ [])) (k .matrices .used)) m
+  matrices-then : MatrixSame (k .state .depth) (k .state .stack) (k .state .projection) (d .combined) (edit (onlyIf (d .newmatrix) (d .combined ∷ [])) (k .matrices .used)) m
   unfolding settled
   matrices-then = prepared (N .matrices) (k .state .defined) (sym (N .defined))
 
@@ -177,7 +177,7 @@ module _ {X : ℕ → List (List Float) → Texcoords → Type 0} {R : List Row 
       go false e = e ∙ sym (ap (λ (n : Matrices). n .mvp-valid) (cond-false (w .rsp .matrices .mvp-valid) (w .rsp .matrices) _ e))
 
   -- the model top
-  top-then : laid (top (k .state)) ≡ laid (mv-top m)
+  top-then : laid (modelTop (k .state)) ≡ laid (mv-top m)
   top-then = ap laid (top-same matrices-then) ∙ laid-again (mv-top m)
 
   lit-same : lit f3dex2 (k .state .geometry) ≡ has (w .rsp .geom) g-lighting
@@ -197,17 +197,17 @@ module _ {X : ℕ → List (List Float) → Texcoords → Type 0} {R : List Row 
 
   lights-now : LightsSame (lightsThen d (k .state)) (lights-then (has (w .rsp .geom) g-lighting) m (length (w .scene .lights-table)) (w .rsp .lighting))
   unfolding settled
-  lights-now = rw (← lit-same) (lights-after (N .lights) m (laid (top (k .state))) top-then (lit f3dex2 (k .state .geometry)) (k .state .counts .lights) (length (w .scene .lights-table)) light-count)
+  lights-now = rw (← lit-same) (lights-after (N .lights) m (laid (modelTop (k .state))) top-then (lit f3dex2 (k .state .geometry)) (k .state .counts .lights) (length (w .scene .lights-table)) light-count)
 
   looking-now : LookSame (lookatThen d (k .state)) (looking-then (texgen-of (has (w .rsp .geom) g-lighting) (w .rsp .geom)) m (length (w .scene .lookat-table)) (w .rsp .looking))
   unfolding settled
-  looking-now = rw (← mode-same) (looking-after (N .lookat) m (laid (top (k .state))) top-then (texgenMode f3dex2 (k .state .geometry)) (k .state .counts .lookats) (length (w .scene .lookat-table)) look-count)
+  looking-now = rw (← mode-same) (looking-after (N .lookat) m (laid (modelTop (k .state))) top-then (texgenMode f3dex2 (k .state .geometry)) (k .state .counts .lookats) (length (w .scene .lookat-table)) look-count)
 
   -- the texture settings that both read
   entry-same : scaleEntry (k .state .texture .sc) (k .state .texture .tc) ≡ scaleEntry (w .rsp .texture-state .sc) (w .rsp .texture-state .tc)
   entry-same = rw (N .settings .texture) refl
 
-  scales-now : Scaled (o .port3) (o .rust3) (k .state .unit) (edit (onlyIf (d .scale) (d .scales ∷ [])) (k .scales .used)) (texcoords-then (w .rsp .texture-state) (w .rsp .texcoords))
+  scales-now : Scaled (o .port3) (o .rust3) (k .state .unit) (edit (onlyIf (d .newscale) (d .scales ∷ [])) (k .scales .used)) (texcoords-then (w .rsp .texture-state) (w .rsp .texcoords))
   unfolding settled
   scales-now = rw entry-same sc
 
@@ -246,14 +246,14 @@ module _ {X : ℕ → List (List Float) → Texcoords → Type 0} {R : List Row 
         fog = fog-then;
         lookat = pick-cond (eqb (d .texgen) 0) 0 (lookatThen d (k .state) .place) ∙ cond-not (eqb (d .texgen) 0) 0 (lookatThen d (k .state) .place) ∙ ap₂ (λ (g n : ℕ). cond (not (eqb g 0)) n 0) mode-then (looking-now .place);
         since2 = rw (← (N .count .viewports)) (last-since (N .view .table));
-        since3 = rw (← (edit-counted (onlyIf (d .scale) (d .scales ∷ [])) (k .scales .used) (k .state .counts .scales) (N .count .scales))) (last-since (scales-now .same .table));
+        since3 = rw (← (edit-counted (onlyIf (d .newscale) (d .scales ∷ [])) (k .scales .used) (k .state .counts .scales) (N .count .scales))) (last-since (scales-now .same .table));
         zscale = ap (λ (v : List Float). at v 2) (N .view .now) ∙ at-2 (w .rsp .viewports .vp-scale) (w .rsp .viewports .vp-trans) (N .view .scale);
         ztranslation = ap (λ (v : List Float). at v 5) (N .view .now) ∙ at-5 (w .rsp .viewports .vp-scale) (w .rsp .viewports .vp-trans) (N .view .scale);
       }
     where
-      matrix-number : counted (onlyIf (d .matrix) (d .combined ∷ [])) (k .state .counts .matrices) - 1 ≡ m .cur-mvp-index
+      matrix-number : counted (onlyIf (d .newmatrix) (d .combined ∷ [])) (k .state .counts .matrices) - 1 ≡ m .cur-mvp-index
       matrix-number =
-          ap (λ (n : ℕ). n - 1) (sym (edit-counted (onlyIf (d .matrix) (d .combined ∷ [])) (k .matrices .used) (k .state .counts .matrices) (N .count .matrices)) ∙ ap length (matrices-then .table) ∙ length-map (m .mvp-table) laid)
+          ap (λ (n : ℕ). n - 1) (sym (edit-counted (onlyIf (d .newmatrix) (d .combined ∷ [])) (k .matrices .used) (k .state .counts .matrices) (N .count .matrices)) ∙ ap length (matrices-then .table) ∙ length-map (m .mvp-table) laid)
           ∙ sym (matrices-then .current)
 
       view-number : over (o .port2) (o .rust2) (k .state .counts .viewports - 1) ≡ w .rsp .viewports .cur-viewport-index
@@ -263,9 +263,9 @@ module _ {X : ℕ → List (List Float) → Texcoords → Type 0} {R : List Row 
           ∙ ap (λ (n : ℕ). n - 1) (length-map (w .rsp .viewports .viewport-table) joined)
           ∙ sym (N .view .current)
 
-      scale-number : over (o .port3) (o .rust3) (counted (onlyIf (d .scale) (d .scales ∷ [])) (k .state .counts .scales) - 1) ≡ texcoords-then (w .rsp .texture-state) (w .rsp .texcoords) .cur-texcoord-index
+      scale-number : over (o .port3) (o .rust3) (counted (onlyIf (d .newscale) (d .scales ∷ [])) (k .state .counts .scales) - 1) ≡ texcoords-then (w .rsp .texture-state) (w .rsp .texcoords) .cur-texcoord-index
       scale-number =
-          ap (λ (n : ℕ). over (o .port3) (o .rust3) (n - 1)) (sym (edit-counted (onlyIf (d .scale) (d .scales ∷ [])) (k .scales .used) (k .state .counts .scales) (N .count .scales)))
+          ap (λ (n : ℕ). over (o .port3) (o .rust3) (n - 1)) (sym (edit-counted (onlyIf (d .newscale) (d .scales ∷ [])) (k .scales .used) (k .state .counts .scales) (N .count .scales)))
           ∙ scales-now .number
 
   abbrev vs : List Vertex
@@ -290,17 +290,17 @@ module _ {X : ℕ → List (List Float) → Texcoords → Type 0} {R : List Row 
       (slots-filled o (sharedBy d (k .state)) x shared-same (rows (d .combined) 0) matrix-read bytes I count at-byte first (k .state .counts .rows) (settledState d (k .state)) (w .rsp .slots) fits
       (record { row = N .slots .row; loaded = N .slots .loaded; drawn = N .slots .drawn; coded = N .slots .coded; code = N .slots .code; deep = N .slots .deep; z = N .slots .z }))
 
-  rows-now : RowsSame o (k .rows .used ++ map (rowOf (sharedBy d (k .state))) vs) (after .scene .columns)
+  rows-now : RowsSame o (k .rows .used ++ map (vertexRow (sharedBy d (k .state))) vs) (after .scene .columns)
   unfolding set-vertex sharing-of
   rows-now = rows-filled o (sharedBy d (k .state)) x shared-same (rows (d .combined) 0) matrix-read bytes I count at-byte (k .rows .used) (w .scene .columns) fits rs
 
   light-table-now : edit (loadEdits d (k .state) vs .lights) (k .lights .used) ≡ map joined (after .scene .lights-table)
   unfolding set-vertex loadEdits settled
-  light-table-now = rw (← lit-same) (light-table-after (N .lights) m (laid (top (k .state))) top-then (lit f3dex2 (k .state .geometry)) (k .lights .used) (w .scene .lights-table) (N .recorded .light-table))
+  light-table-now = rw (← lit-same) (light-table-after (N .lights) m (laid (modelTop (k .state))) top-then (lit f3dex2 (k .state .geometry)) (k .lights .used) (w .scene .lights-table) (N .recorded .light-table))
 
   look-table-now : edit (loadEdits d (k .state) vs .lookats) (k .lookats .used) ≡ map joined (after .scene .lookat-table)
   unfolding set-vertex loadEdits settled
-  look-table-now = rw (← mode-same) (look-table-after (N .lookat) m (laid (top (k .state))) top-then (texgenMode f3dex2 (k .state .geometry)) (k .lookats .used) (w .scene .lookat-table) (N .recorded .lookat-table))
+  look-table-now = rw (← mode-same) (look-table-after (N .lookat) m (laid (modelTop (k .state))) top-then (texgenMode f3dex2 (k .state .geometry)) (k .lookats .used) (w .scene .lookat-table) (N .recorded .lookat-table))
 
   fog-table-now : edit (loadEdits d (k .state) vs .fogs) (k .fogs .used) ≡ after .scene .fog-table
   unfolding set-vertex loadEdits settled

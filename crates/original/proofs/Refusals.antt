@@ -30,7 +30,7 @@ use Rattle.stage.specs.Modify.{slotOf, tablesOf, scaleEdit, rowChange, asking, 
 use Rattle.stage.specs.Draw.{slotsFrom, judgeCodes, cullPlan, depthPlan, judgeEver, triangle, runEdit, drawPlan}
 use Rattle.sequence.specs.Sequence.{Command, matrix, force, pop, viewport, geometry, texture, fog, number, light, lookat, microcode, load, cull, depth, modify, draw, ink, Book, loadOf, plan}
 use Rattle.original.specs.Drawing.{common, cull-display-list, branch-z, known, modify-vertex}
-use Rattle.original.specs.Walk.{World, execute, told}
+use Rattle.original.specs.Walk.{World, execute, yesNo}
 use Rattle.original.specs.Relation.{Offsets, isSome, Same}
 use Rattle.original.specs.Domain.{stage, Beside}
 use Rattle.original.proofs.Tests.{there}
@@ -46,7 +46,7 @@ module _ (Q : ℕ → List ℕ → Type 0) where
   unfolding Refused
   re-does vs t e = tt
 
-  re-unless : (b : Bool) (n : ℕ) (vs : List ℕ) (p : Plan) → (b ≡ false → Q n vs) → (b ≡ true → Refused Q p) → Refused Q (unless b n vs p)
+  re-unless : (b : Bool) (n : ℕ) (vs : List ℕ) (p : Plan) → (b ≡ false → Q n vs) → (b ≡ true → Refused Q p) → Refused Q (unless b (refuse n vs) p)
   unfolding unless Refused
   re-unless true n vs p f g = g refl
   re-unless false n vs p f g = f refl
@@ -122,7 +122,7 @@ module _ {o : Offsets} {k : Book} {w : World} (N : Same o k w) where
   not-one c n h vs a b = absurd (omega arith)
 
   abbrev Q : ℕ → ℕ → ℕ → ℕ → List ℕ → Type 0
-  Q n i code m vs = Beside m vs (told w (common (w .rsp .slots) n i code))
+  Q n i code m vs = Beside m vs (yesNo w (common (w .rsp .slots) n i code))
 
   refused-map : (A B : ℕ → List ℕ → Type 0) → ((n : ℕ) (vs : List ℕ) → A n vs → B n vs) → (p : Plan) → Refused A p → Refused B p
   unfolding Refused
@@ -196,10 +196,10 @@ module _ {o : Offsets} {k : Book} {w : World} (N : Same o k w) where
 
   -- ---- the others are never refused with one of the four
 
-  data-refused : (c : Command) (n : ℕ) (b : Bool) (p : Plan) → Refused (Too c) p → Refused (Too c) (unless b 7 (n ∷ []) p)
+  data-refused : (c : Command) (n : ℕ) (b : Bool) (p : Plan) → Refused (Too c) p → Refused (Too c) (unless b (refuse 7 (n ∷ [])) p)
   data-refused c n b p h = re-unless _ b 7 (n ∷ []) p (λ _. not-one c 7 (omega arith) (n ∷ [])) (λ _. h)
 
-  sound-refused : (c : Command) (p : Plan) → Refused (Too c) p → Refused (Too c) (unless (stateSound (k .state)) 10 [] p)
+  sound-refused : (c : Command) (p : Plan) → Refused (Too c) p → Refused (Too c) (unless (stateSound (k .state)) (refuse 10 []) p)
   sound-refused c p h = re-unless _ (stateSound (k .state)) 10 [] p (λ _. not-one c 10 (omega arith) []) (λ _. h)
 
   short-refused : (c : Command) (ls : List Lent) (p : Plan) → Refused (Too c) p → Refused (Too c) (judge 8 ls p)

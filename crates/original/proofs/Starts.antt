@@ -10,7 +10,7 @@ use Rattle.matrix.proofs.Believe.{length-laid}
 use lib.Ieee.{Float, nan, eq}
 use Rattle.areas.specs.Area.{matches}
 use Rattle.matrix.specs.Math as math
-use Rattle.matrix.specs.Math.{rows, laid, unit}
+use Rattle.matrix.specs.Math.{rows, laid, identity as identity′}
 use Rattle.decide.specs.Family.{f3dex2}
 use Rattle.decide.specs.Stack.{geometryAfter, relit}
 use Rattle.fold.specs.Scales.{scaleEntry, sameScale}
@@ -64,17 +64,17 @@ three-zeros n k h = λ i. at-zero (3 * k) (omega arith) i ∷ at-zero (3 * k + 1
     at-zero j q = getD-replicate n j math.zero nan q
 
 -- sixteen numbers in front of others
-front : (l : List Float) → rows (laid unit ++ l) 0 ≡ rows (laid identity) 0
+front : (l : List Float) → rows (laid identity′ ++ l) 0 ≡ rows (laid identity) 0
 unfolding rows laid
 front l = refl
 
-matrices0 : MatrixSame 1 (laid unit ++ zeros 496) (laid unit) (laid unit) (laid unit ∷ []) (default .matrices)
+matrices0 : MatrixSame 1 (laid identity′ ++ zeros 496) (laid identity′) (laid identity′) (laid identity′ ∷ []) (default .matrices)
 matrices0 =
     record {
       depth = refl;
       low = omega arith;
       high = omega arith;
-      long = length-append (laid unit) (zeros 496) ∙ ap₂ (λ (a b : ℕ). a + b) (length-laid unit) (length-replicate 496 math.zero);
+      long = length-append (laid identity′) (zeros 496) ∙ ap₂ (λ (a b : ℕ). a + b) (length-laid identity′) (length-replicate 496 math.zero);
       deep = length-replicate 32 identity;
       stack = first;
       projection = refl;
@@ -84,7 +84,7 @@ matrices0 =
       current = refl;
     }
   where
-    first : (i : ℕ) → i < 1 → rows (laid unit ++ zeros 496) (16 * i) ≡ rows (laid (getD (replicate 32 identity) i [])) 0
+    first : (i : ℕ) → i < 1 → rows (laid identity′ ++ zeros 496) (16 * i) ≡ rows (laid (getD (replicate 32 identity) i [])) 0
     first i h =
         let z : i ≡ 0 = omega arith in
         rw z (front (zeros 496))

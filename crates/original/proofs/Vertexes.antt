@@ -21,7 +21,7 @@ use Rattle.vertex.specs.Vertices.{floatsOf, wordsOf, clipOf, slotAt, slotOf, ve
 use Rattle.vertex.proofs.Believe.{floats-size, words-size}
 use Rattle.stage.specs.declared.State.{State}
 use Rattle.stage.specs.Plan.{Row}
-use Rattle.stage.specs.Load.{rowOf}
+use Rattle.stage.specs.Load.{vertexRow}
 use Rattle.stage.specs.Rows.{fillSlot, fillSlots}
 use Rattle.original.specs.Math.{Mat4, f0, f1, ix, mul-row-vec4}
 use Rattle.original.specs.Memory.{RawVertex, read-vertex}
@@ -126,7 +126,7 @@ module _ (o : Offsets) (e : Shared) (x : Sharing) (H : ShareSame o e x) (m : Lis
         })
 
     -- the row
-    made-same : made-by x rv ≡ made-of o (rowOf e v)
+    made-same : made-by x rv ≡ made-of o (vertexRow e v)
     unfolding made-by made-of wordsOf floatsOf vertexAt
     made-same = λ i.
         record {
@@ -154,10 +154,10 @@ module _ (o : Offsets) (e : Shared) (x : Sharing) (H : ShareSame o e x) (m : Lis
   slots-filled zero p k row s y h S = S
   slots-filled (suc n) p k row s y h S = slots-filled n (p + 16) (k + 1) (row + 1) (fillSlot s k row (slotOf m e (vertexAt b p))) (slot-then x (read-vertex b p) k row y) (omega arith) (slot-same p (omega arith) S k row)
 
-  pub rows-filled : (n p : ℕ) (rs : List Row) (c : Columns) → p + 16 * n ≤ length b → RowsSame o rs c → RowsSame o (rs ++ map (rowOf e) (verticesAt b p n)) (columns-then x (vertices b p n) c)
+  pub rows-filled : (n p : ℕ) (rs : List Row) (c : Columns) → p + 16 * n ≤ length b → RowsSame o rs c → RowsSame o (rs ++ map (vertexRow e) (verticesAt b p n)) (columns-then x (vertices b p n) c)
   unfolding columns-then vertices verticesAt wordsOf
   rows-filled zero p rs c h S = rw (append-nil rs) S
   rows-filled (suc n) p rs c h S =
-      let T : RowsSame o (rs ++ rowOf e (vertexAt b p) ∷ []) (push c (made-by x (read-vertex b p))) = rw (made-same p (omega arith)) (row-pushed S (rowOf e (vertexAt b p)) (floats-size (vertexAt b p)) (words-size e (vertexAt b p)) (H .since2) (H .since3)) in
-      let K = rows-filled n (p + 16) (rs ++ rowOf e (vertexAt b p) ∷ []) (push c (made-by x (read-vertex b p))) (omega arith) T in
-      rw (append-assoc rs (rowOf e (vertexAt b p) ∷ []) (map (rowOf e) (verticesAt b (p + 16) n))) at K
+      let T : RowsSame o (rs ++ vertexRow e (vertexAt b p) ∷ []) (push c (made-by x (read-vertex b p))) = rw (made-same p (omega arith)) (row-pushed S (vertexRow e (vertexAt b p)) (floats-size (vertexAt b p)) (words-size e (vertexAt b p)) (H .since2) (H .since3)) in
+      let K = rows-filled n (p + 16) (rs ++ vertexRow e (vertexAt b p) ∷ []) (push c (made-by x (read-vertex b p))) (omega arith) T in
+      rw (append-assoc rs (vertexRow e (vertexAt b p) ∷ []) (map (vertexRow e) (verticesAt b (p + 16) n))) at K

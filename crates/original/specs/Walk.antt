@@ -88,9 +88,9 @@ abbrev pub done : World → Result Went
 done w = Ok record { values = []; world = w }
 
 -- yes or no, and nothing changes
-abbrev pub told : World → Result Bool → Result Went
-told w (Err k) = Err k
-told w (Ok b) = Ok record { values = cond b 1 0 ∷ []; world = w }
+abbrev pub yesNo : World → Result Bool → Result Went
+yesNo w (Err k) = Err k
+yesNo w (Ok b) = Ok record { values = cond b 1 0 ∷ []; world = w }
 
 abbrev pub changed : World → Result (Rsp × Scene) → Result Went
 changed w (Err k) = Err k
@@ -117,8 +117,8 @@ execute (microcode to) w = done (with-rsp w (switch-microcode to (w .rsp)))
 execute (load first count bytes at) w =
     let r = with-matrices (w .rsp) (prepare-vertex (w .rsp .matrices)) in
     Ok record { values = cond (w .rsp .matrices .mvp-valid) 0 1 ∷ []; world = with-both w (set-vertex bytes at count first (w .fog-mul) (w .fog-offset) (r, w .scene)) }
-execute (cull first last) w = told w (cull-display-list first last (w .rsp .slots))
-execute (depth slot threshold) w = told w (branch-z slot threshold (w .rsp .slots))
+execute (cull first last) w = yesNo w (cull-display-list first last (w .rsp .slots))
+execute (depth slot threshold) w = yesNo w (branch-z slot threshold (w .rsp .slots))
 execute (modify slot attribute value) w = changed w (modify-vertex slot attribute value (w .rsp, w .scene))
 execute (draw a b c material mode colour prim) w = done (with-both w (draw-tri a b c material mode colour prim (w .rsp, w .scene)))
 execute (ink colour) w = done w

@@ -9,12 +9,12 @@ use Rattle.layout.specs.Layout.{entryAt, tripleAt, viewportAt, vertexAt}
 use Rattle.areas.specs.Area.{put, write, matches}
 use Rattle.decide.specs.Family.{texgenMode}
 use Rattle.decide.specs.Judge.{firstShort}
-use Rattle.decide.specs.Pick.{pick}
+use Rattle.numbers.specs.Choice.{pick}
 use Rattle.fold.specs.Fog.{find}
 use Rattle.fold.specs.Scales.{sameScale}
 use Rattle.fold.specs.Decision.{refold}
 use Rattle.vertex.specs.Vertices.{floatsOf, wordsOf, clipOf, slotAt, slotOf, verticesAt}
-use Rattle.stage.specs.Plan.{unless, settle, appended, appending}
+use Rattle.stage.specs.Plan.{unless, carry, appended, appending}
 use Rattle.stage.specs.Sound.{all, stateSound}
 use Rattle.stage.specs.Opening.{blank, openingPlan}
 use Rattle.stage.specs.Opening as opening
@@ -30,7 +30,7 @@ use Rattle.triangle.specs.Slot.{held}
 use Rattle.prints.specs.Prints.{Prints, load, modify, drawn, three, twice}
 
 pub prints : Prints
-unfolding load modify drawn three twice asking changed changePlan modifyPlan cullPlan depthPlan runEdit drawPlan decoded floatsAfter wordsAfter depthAfter appends comesTo closed sameRun held le ofRatio isRatio entryAt tripleAt viewportAt sqrt toBits rowTimes codeOf depthOf vertexAt put write matches texgenMode pick find sameScale refold floatsOf wordsOf clipOf slotAt slotOf verticesAt unless settle appended appending all stateSound blank openingPlan opening.opened viewing viewportPlan settled settledState sharedBy loadEdits loadPlan fillSlot fillSlots times rows laid add mul div neg lt ne
+unfolding load modify drawn three twice asking changed changePlan modifyPlan cullPlan depthPlan runEdit drawPlan decoded floatsAfter wordsAfter depthAfter appends comesTo closed sameRun held le ofRatio isRatio entryAt tripleAt viewportAt sqrt toBits rowTimes codeOf depthOf vertexAt put write matches texgenMode pick find sameScale refold floatsOf wordsOf clipOf slotAt slotOf verticesAt unless carry appended appending all stateSound blank openingPlan opening.opened viewing viewportPlan settled settledState sharedBy loadEdits loadPlan fillSlot fillSlots times rows laid add mul div neg lt ne
 prints =
     record {
       case1 = (refl, refl, refl);

@@ -7,7 +7,7 @@ use mathlib.Core.List.{List}
 use lib.ListN.{length, getD}
 use lib.Dec.{ltb}
 use borrow.Author.Tests.{lt-ltb, le-ltb}
-use Rattle.decide.specs.Pick.{pick}
+use Rattle.numbers.specs.Choice.{pick}
 use Rattle.stage.specs.declared.Answered.{Answered}
 use Rattle.stage.specs.Plan.{outcome}
 use Rattle.sequence.specs.Sequence.{Areas, Port}

@@ -8,7 +8,7 @@ use borrow.Author.Tests.{le-leb, lt-leb, leb-true}
 use lib.Dec.{leb}
 use lib.ListN.{length, take, drop, getD, length-drop}
 use lib.Seq.{length-take-le, take-all}
-use Rattle.decide.specs.Pick.{pick}
+use Rattle.numbers.specs.Choice.{pick}
 use Rattle.replay.specs.declared.ops.Shape.{Shape}
 use Rattle.replay.specs.declared.script.Call.{Call}
 use Rattle.replay.specs.Script.{argsOf, sizeOf, dataOf, cutOf, wholeOf, callAt, Ahead}

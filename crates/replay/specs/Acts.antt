@@ -5,7 +5,7 @@ use mathlib.Core.List.{List, [], _∷_}
 use lib.ListN.{set, getD}
 use lib.Dec.{eqb}
 use Rattle.areas.specs.Area.{put}
-use Rattle.decide.specs.Pick.{pick}
+use Rattle.numbers.specs.Choice.{pick}
 use Rattle.stage.specs.declared.State.{State}
 use Rattle.stage.specs.declared.Counts.{Counts}
 use Rattle.stage.specs.With.{withOpened, withModel, withLights, withNumber, withCounts, withRow, withEver}

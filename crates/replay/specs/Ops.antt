@@ -9,12 +9,12 @@ use lib.IntN.{ℤ}
 use lib.Ieee.{Float}
 use Rattle.numbers.specs.Ratio.{signed}
 use Rattle.decide.specs.Family.{f3dex2}
-use Rattle.decide.specs.Pick.{pick}
+use Rattle.numbers.specs.Choice.{pick}
 use Rattle.stage.specs.declared.State.{State}
 use Rattle.stage.specs.declared.Answered.{Answered}
 use Rattle.stage.specs.declared.settings.Microcode.{Microcode}
 use Rattle.stage.specs.declared.settings.Microcode.the-variants.{F3dex2, F3dex2NoN}
-use Rattle.stage.specs.Plan.{Outcome, outcome, settle}
+use Rattle.stage.specs.Plan.{Outcome, outcome, carry}
 use Rattle.stage.specs.Opening.{blank, openingPlan, areas12}
 use Rattle.sequence.specs.Sequence.{Command, matrix, force, pop, viewport, geometry, texture, fog, number, light, lookat, microcode, load, cull, depth, modify, draw, ink, Areas, Port, plan, result, with12}
 use Rattle.replay.specs.declared.ops.Shape.{Shape}
@@ -34,7 +34,7 @@ by m p = result (plan f3dex2 256) m p
 abbrev pub opens : Port → Outcome Areas
 opens p =
     let x : List Float × List Float = (p .areas .matrices, p .areas .viewports) in
-    let o = settle areas12 (openingPlan (p .areas .matrices) (p .areas .viewports)) (blank false) x in
+    let o = carry areas12 (openingPlan (p .areas .matrices) (p .areas .viewports)) (blank false) x in
     record { state = o .state; number = o .number; values = o .values; areas = with12 (p .areas) (o .areas) }
 
 -- done with the state s, and no area changed

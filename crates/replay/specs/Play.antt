@@ -4,7 +4,7 @@ use mathlib.Core.Bool.{false, _&&_}
 use mathlib.Core.List.{List}
 use lib.ListN.{length, take, drop, getD}
 use lib.Dec.{ltb}
-use Rattle.decide.specs.Pick.{pick}
+use Rattle.numbers.specs.Choice.{pick}
 use Rattle.stage.specs.declared.State.{State}
 use Rattle.stage.specs.Opening.{blank}
 use Rattle.sequence.specs.Sequence.{Areas, Port}

@@ -4,7 +4,7 @@ use mathlib.Core.Bool.{true, false}
 use mathlib.Core.List.{List}
 use lib.ListN.{length, drop, getD}
 use lib.Dec.{leb}
-use Rattle.decide.specs.Pick.{pick}
+use Rattle.numbers.specs.Choice.{pick}
 use Rattle.replay.specs.declared.ops.Shape.{Shape}
 use Rattle.replay.specs.declared.script.Args.{Args}
 use Rattle.replay.specs.declared.script.Call.{Call}

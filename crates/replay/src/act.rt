@@ -6,7 +6,7 @@ ghost use Prim.Native.Nat.{_%_};
 ghost use lib.ListN.{set};
 ghost use lib.Dec.{eqb};
 ghost use Rattle.areas.specs.Area.{put};
-ghost use Rattle.decide.specs.Pick.{pick};
+ghost use Rattle.numbers.specs.Choice.{pick};
 ghost use Rattle.numbers.specs.Ratio.{signed};
 ghost use Rattle.replay.specs.Acts.{lengthList, lentAfter, countList, countAfter, countsOf, pokedState, writtenTo};
 use crate::ops;

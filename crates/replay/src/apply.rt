@@ -4,7 +4,7 @@ ghost use mathlib.Core.Bool.{false};
 ghost use Prim.Native.Nat.{_%_, _≤_, min};
 ghost use lib.Dec.{eqb};
 ghost use Rattle.stage.specs.Opening.{blank};
-ghost use Rattle.stage.specs.Plan.{outcome, settle, nothing};
+ghost use Rattle.stage.specs.Plan.{outcome, carry, nothing};
 ghost use Rattle.stage.specs.Lights.{texturePlan, microcodePlan};
 ghost use Rattle.replay.specs.Ops.{microcodeOf, SetAre, TurnAre, applyBy, areasOf, lendBy, stepBy};
 ghost use Rattle.numbers.specs.Ratio.{signed as Ratio·signed};
@@ -34,7 +34,7 @@ fn signed(x: u32) -> i16
 }
 
 fn texture(state: State, a: Args) -> Answered
-    ensures { λ r. ⌜ outcome r tt ≡ settle nothing (texturePlan state (a .a % 256) (a .b % 256) (eqb (a .c % 2) 1) (a .d % 65536) (a .e % 65536)) state tt ⌝ }
+    ensures { λ r. ⌜ outcome r tt ≡ carry nothing (texturePlan state (a .a % 256) (a .b % 256) (eqb (a .c % 2) 1) (a .d % 65536) (a .e % 65536)) state tt ⌝ }
 {
     state.set_texture(
         script::octet(a.a),
@@ -46,7 +46,7 @@ fn texture(state: State, a: Args) -> Answered
 }
 
 fn microcode(state: State, number: u32) -> Answered
-    ensures { λ r. ⌜ outcome r tt ≡ settle nothing (microcodePlan state (microcodeOf number)) state tt ⌝ }
+    ensures { λ r. ⌜ outcome r tt ≡ carry nothing (microcodePlan state (microcodeOf number)) state tt ⌝ }
 {
     if number % 2 == 0 {
         state.switch_microcode(Microcode::F3dex2)

@@ -27,7 +27,7 @@ use Rattle.stage.specs.declared.State.{State}
 use Rattle.stage.specs.Plan.{Table, Edit, keep, grow, Row, Edits, Plan, refuse, does, unless, pick, lent, judge, appended, appending, untouched}
 use Rattle.stage.specs.Sound.{stateSound}
 use Rattle.stage.specs.With.{withCombined, withModel, withViewport, withDrawn}
-use Rattle.stage.specs.Matrices.{edits1, edits2, top, combine, turned, matrixPlan, forcePlan, popPlan, viewportEntry, viewing, viewportPlan}
+use Rattle.stage.specs.Matrices.{edits1, edits2, modelTop, combine, turned, matrixPlan, forcePlan, popPlan, viewportEntry, viewing, viewportPlan}
 use Rattle.stage.specs.Load.{LoadTables, settled, settledState, sharedBy, loadEdits, loadLent, loadPlan}
 use Rattle.stage.specs.Rows.{fillSlots}
 use Rattle.stage.specs.Modify.{edits37, slotOf, tablesOf, asking, scaleEdit, rowChange, changed, changePlan, modifyPlan, inkPlan}
@@ -63,7 +63,7 @@ module _ (Q : List ℕ → State → Edits → Type 0) where
   unfolding Accepted
   on-then vs t e h = h t refl
 
-  pub on-unless : (b : Bool) (n : ℕ) (vs : List ℕ) (p : Plan) → (b ≡ true → Accepted Q p) → Accepted Q (unless b n vs p)
+  pub on-unless : (b : Bool) (n : ℕ) (vs : List ℕ) (p : Plan) → (b ≡ true → Accepted Q p) → Accepted Q (unless b (refuse n vs) p)
   unfolding unless Accepted
   on-unless true n vs p h = h refl
   on-unless false n vs p h = tt
@@ -113,7 +113,7 @@ module _ (Q : List ℕ → State → Edits → Type 0) where
   on-combine s t m same new = on-appending 1 t m _ (λ e. on-does _ _ _ (same e)) (λ e k. on-does _ _ _ (new e k))
 
   pub on-matrix : (f : Family) (s : State) (t : Table (List Float)) (flags : ℕ) (bytes : List ℕ) (at : ℕ)
-      → (at + 64 ≤ length bytes → (s′ : State) → s′ ≡ turned (flag (f .push) flags) (flag (f .load) flags) (flag (f .projection) flags) s (matrixAt bytes at) → Accepted Q (combine s′ t (laid (times (top s′) (rows (s′ .projection) 0)))))
+      → (at + 64 ≤ length bytes → (s′ : State) → s′ ≡ turned (flag (f .push) flags) (flag (f .load) flags) (flag (f .projection) flags) s (matrixAt bytes at) → Accepted Q (combine s′ t (laid (times (modelTop s′) (rows (s′ .projection) 0)))))
       → Accepted Q (matrixPlan f s t flags bytes at)
   unfolding matrixPlan
   on-matrix f s t flags bytes at h =
@@ -130,7 +130,7 @@ module _ (Q : List ℕ → State → Edits → Type 0) where
       → (eqb (popped count (s .depth)) (s .depth) ≡ true → Q [] s untouched)
       → (
       eqb (popped count (s .depth)) (s .depth) ≡ false
-      → (s′ : State) → s′ ≡ withModel s (popped count (s .depth)) (s .stack) → Accepted Q (combine s′ t (laid (times (top s′) (rows (s′ .projection) 0))))
+      → (s′ : State) → s′ ≡ withModel s (popped count (s .depth)) (s .stack) → Accepted Q (combine s′ t (laid (times (modelTop s′) (rows (s′ .projection) 0))))
       )
       → Accepted Q (popPlan s t count)
   unfolding popPlan

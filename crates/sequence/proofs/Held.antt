@@ -11,7 +11,7 @@ use Rattle.areas.specs.Area.{entries, room}
 use Rattle.areas.proofs.Tables.{length-entries, length-write, entries-grow, entries-set}
 use Rattle.decide.specs.Family.{Family}
 use Rattle.stage.specs.declared.State.{State}
-use Rattle.stage.specs.Plan.{table, Edit, keep, grow, patch, Row, rowsOf, rowTable, rowFloats, rowWords, only, Edits, Plan, refuse, does, more, counted, advance, after, settle}
+use Rattle.stage.specs.Plan.{table, Edit, keep, grow, patch, Row, rowsOf, rowTable, rowFloats, rowWords, only, Edits, Plan, refuse, does, more, counted, advance, after, carry}
 use Rattle.stage.specs.With.{withCounts}
 use Rattle.sequence.specs.Sequence.{Command, Areas, Port, Alike, book, plan, afterAll, result, step, run}
 use Rattle.sequence.proofs.Turn.{edit, edited, enter, turn, course}
@@ -105,13 +105,13 @@ module _ (n : ℕ) (ed : Edit Row) (x : List Float) (y : List ℕ) (a : Sized 9 
 -- ---- the whole port
 
 -- the port after a plan
-abbrev pub carry : Plan → Port → Port
-carry q p = record { state = settle afterAll q (p .state) (p .areas) .state; areas = settle afterAll q (p .state) (p .areas) .areas }
+abbrev pub portAfter : Plan → Port → Port
+portAfter q p = record { state = carry afterAll q (p .state) (p .areas) .state; areas = carry afterAll q (p .state) (p .areas) .areas }
 
 module _ (p : Port) (h : Fits p) (vs : List ℕ) (t : State) (e : Edits) (z : AllSized (p .state .counts) e (p .areas)) where
   -- what is done leaves the counted entries in the areas
-  done-fits : Fits (carry (does vs t e) p)
-  unfolding settle
+  done-fits : Fits (portAfter (does vs t e) p)
+  unfolding carry
   done-fits =
       let c = p .state .counts in
       let l = p .areas in
@@ -130,8 +130,8 @@ module _ (p : Port) (h : Fits p) (vs : List ℕ) (t : State) (e : Edits) (z : Al
       }
 
   -- no area changes its length
-  done-alike : Alike (carry (does vs t e) p .areas) (p .areas)
-  unfolding settle
+  done-alike : Alike (portAfter (does vs t e) p .areas) (p .areas)
+  unfolding carry
   done-alike =
       record {
         matrices = length-after 16 _ (e .matrices) _;
@@ -147,8 +147,8 @@ module _ (p : Port) (h : Fits p) (vs : List ℕ) (t : State) (e : Edits) (z : Al
       }
 
   -- the areas then hold the book with the edits entered
-  done-book : book (carry (does vs t e) p) ≡ enter t e (book p)
-  unfolding settle book
+  done-book : book (portAfter (does vs t e) p) ≡ enter t e (book p)
+  unfolding carry book
   done-book =
       let c = p .state .counts in
       let l = p .areas in
@@ -183,8 +183,8 @@ alike-self l =
     }
 
 -- a plan on the port and on its book
-pub carried : (p : Port) → Fits p → (q : Plan) → Accepted (Sizes p) q → Fits (carry q p) × Alike (carry q p .areas) (p .areas) × (book (carry q p) ≡ turn q (book p))
-unfolding settle turn Accepted
+pub carried : (p : Port) → Fits p → (q : Plan) → Accepted (Sizes p) q → Fits (portAfter q p) × Alike (portAfter q p .areas) (p .areas) × (book (portAfter q p) ≡ turn q (book p))
+unfolding carry turn Accepted
 carried p h (refuse n vs) z = (h, alike-self (p .areas), refl)
 carried p h (does vs t e) z = (done-fits p h vs t e z, done-alike p h vs t e z, done-book p h vs t e z)
 

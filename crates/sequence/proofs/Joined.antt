@@ -12,7 +12,7 @@ use Rattle.stage.specs.declared.State.{State}
 use Rattle.stage.specs.declared.Counts.{Counts}
 use Rattle.stage.specs.declared.Answered.{Answered}
 use Rattle.stage.specs.declared.settings.Microcode.{Microcode}
-use Rattle.stage.specs.Plan.{table, rowTable, Edits, Plan, refuse, does, advance, Outcome, outcome, settle, nothing}
+use Rattle.stage.specs.Plan.{table, rowTable, Edits, Plan, refuse, does, advance, Outcome, outcome, carry, nothing}
 use Rattle.stage.specs.With.{withCounts}
 use Rattle.stage.specs.Opening.{blank, openingPlan, areas12}
 use Rattle.stage.specs.Matrices.{area1, area2, combine, matrixPlan, forcePlan, popPlan, viewportPlan, geometryPlan}
@@ -104,13 +104,13 @@ module _ {A : Type 0} (put : Areas → A → Areas) (g : Counts → Edits → A 
   Within vs t e = put l (g (s .counts) e x) ≡ afterAll (s .counts) e l
 
   -- what a plan comes to
-  within : (q : Plan) → put l x ≡ l → Accepted Within q → inside (put l) (settle g q s x) ≡ settle afterAll q s l
-  unfolding settle Accepted
+  within : (q : Plan) → put l x ≡ l → Accepted Within q → inside (put l) (carry g q s x) ≡ carry afterAll q s l
+  unfolding carry Accepted
   within (refuse n vs) h k = λ i. record { state = s; number = n; values = vs; areas = h i }
   within (does vs t e) h k = λ i. record { state = withCounts t (advance e (s .counts)); number = 0; values = vs; areas = k i }
 
   -- so a contract of the part is one of all areas
-  joined : (q : Plan) (r : Answered) (y : A) → put l x ≡ l → Accepted Within q → outcome r y ≡ settle g q s x → outcome r (put l y) ≡ settle afterAll q s l
+  joined : (q : Plan) (r : Answered) (y : A) → put l x ≡ l → Accepted Within q → outcome r y ≡ carry g q s x → outcome r (put l y) ≡ carry afterAll q s l
   joined q r y h k e = ap (inside (put l)) e ∙ within q h k
 
 -- ---- each command
@@ -122,7 +122,7 @@ module _ (f : Family) (slots : ℕ) (p : Port) where
 
   -- matrix: table 1
   pub joined-matrix : (flags : ℕ) (bytes : List ℕ) (at : ℕ) (r : Answered) (x : List Float)
-      → outcome r x ≡ settle area1 (matrixPlan f (p .state) (table 16 (p .state .counts .matrices) (p .areas .matrices)) flags bytes at) (p .state) (p .areas .matrices)
+      → outcome r x ≡ carry area1 (matrixPlan f (p .state) (table 16 (p .state .counts .matrices) (p .areas .matrices)) flags bytes at) (p .state) (p .areas .matrices)
       → outcome r (with1 (p .areas) x) ≡ result (plan f slots) (matrix flags bytes at) p
   unfolding result plan book
   joined-matrix flags bytes at r x e =
@@ -130,7 +130,7 @@ module _ (f : Family) (slots : ℕ) (p : Port) where
 
   -- forced matrix: table 1
   pub joined-force : (bytes : List ℕ) (at : ℕ) (r : Answered) (x : List Float)
-      → outcome r x ≡ settle area1 (forcePlan (p .state) (table 16 (p .state .counts .matrices) (p .areas .matrices)) bytes at) (p .state) (p .areas .matrices)
+      → outcome r x ≡ carry area1 (forcePlan (p .state) (table 16 (p .state .counts .matrices) (p .areas .matrices)) bytes at) (p .state) (p .areas .matrices)
       → outcome r (with1 (p .areas) x) ≡ result (plan f slots) (force bytes at) p
   unfolding result plan book
   joined-force bytes at r x e =
@@ -138,7 +138,7 @@ module _ (f : Family) (slots : ℕ) (p : Port) where
 
   -- pop: table 1
   pub joined-pop : (count : ℕ) (r : Answered) (x : List Float)
-      → outcome r x ≡ settle area1 (popPlan (p .state) (table 16 (p .state .counts .matrices) (p .areas .matrices)) count) (p .state) (p .areas .matrices)
+      → outcome r x ≡ carry area1 (popPlan (p .state) (table 16 (p .state .counts .matrices) (p .areas .matrices)) count) (p .state) (p .areas .matrices)
       → outcome r (with1 (p .areas) x) ≡ result (plan f slots) (pop count) p
   unfolding result plan book
   joined-pop count r x e =
@@ -146,7 +146,7 @@ module _ (f : Family) (slots : ℕ) (p : Port) where
 
   -- viewport: table 2
   pub joined-viewport : (bytes : List ℕ) (at : ℕ) (r : Answered) (x : List Float)
-      → outcome r x ≡ settle area2 (viewportPlan (p .state) (table 6 (p .state .counts .viewports) (p .areas .viewports)) bytes at) (p .state) (p .areas .viewports)
+      → outcome r x ≡ carry area2 (viewportPlan (p .state) (table 6 (p .state .counts .viewports) (p .areas .viewports)) bytes at) (p .state) (p .areas .viewports)
       → outcome r (with2 (p .areas) x) ≡ result (plan f slots) (viewport bytes at) p
   unfolding result plan book
   joined-viewport bytes at r x e =
@@ -154,7 +154,7 @@ module _ (f : Family) (slots : ℕ) (p : Port) where
 
   -- load: tables 1 and 3 to 7
   pub joined-load : (first count : ℕ) (bytes : List ℕ) (at : ℕ) (r : Answered) (x : LoadAreas)
-      → outcome r x ≡ settle areasLoad (loadPlan f slots (p .state) (loadTables (p .state .counts) (loadPart (p .areas))) first count bytes at) (p .state) (loadPart (p .areas))
+      → outcome r x ≡ carry areasLoad (loadPlan f slots (p .state) (loadTables (p .state .counts) (loadPart (p .areas))) first count bytes at) (p .state) (loadPart (p .areas))
       → outcome r (withLoad (p .areas) x) ≡ result (plan f slots) (load first count bytes at) p
   unfolding result plan book loadEdits
   joined-load first count bytes at r x e =
@@ -164,7 +164,7 @@ module _ (f : Family) (slots : ℕ) (p : Port) where
   -- modify: tables 3 and 7
   pub joined-modify : (slot attribute value : ℕ) (r : Answered) (x : List Float × List Float × List ℕ)
       → let y : List Float × List Float × List ℕ = (p .areas .scales, p .areas .floats, p .areas .words) in
-      outcome r x ≡ settle areas37 (modifyPlan slots (p .state) (table 4 (p .state .counts .scales) (y .0)) (rowTable (p .state .counts .rows) (y .1) (y .2)) slot attribute value) (p .state) y
+      outcome r x ≡ carry areas37 (modifyPlan slots (p .state) (table 4 (p .state .counts .scales) (y .0)) (rowTable (p .state .counts .rows) (y .1) (y .2)) slot attribute value) (p .state) y
       → outcome r (with37 (p .areas) x) ≡ result (plan f slots) (modify slot attribute value) p
   unfolding result plan book
   joined-modify slot attribute value r x e =
@@ -174,7 +174,7 @@ module _ (f : Family) (slots : ℕ) (p : Port) where
   -- draw: tables 8 and 9
   pub joined-draw : (a b c material mode colour prim : ℕ) (r : Answered) (x : List ℕ × List ℕ)
       → let y : List ℕ × List ℕ = (p .areas .indices, p .areas .runs) in
-      outcome r x ≡ settle areas89 (drawPlan f slots (p .state) (table 1 (p .state .counts .indices) (y .0)) (table 8 (p .state .counts .runs) (y .1)) a b c (material ∷ mode ∷ colour ∷ prim ∷ [])) (p .state) y
+      outcome r x ≡ carry areas89 (drawPlan f slots (p .state) (table 1 (p .state .counts .indices) (y .0)) (table 8 (p .state .counts .runs) (y .1)) a b c (material ∷ mode ∷ colour ∷ prim ∷ [])) (p .state) y
       → outcome r (with89 (p .areas) x) ≡ result (plan f slots) (draw a b c material mode colour prim) p
   unfolding result plan book
   joined-draw a b c material mode colour prim r x e =
@@ -186,61 +186,61 @@ module _ (f : Family) (slots : ℕ) (p : Port) where
   Quiet = Within withNone nothing (p .state) (p .areas) tt
 
   -- one law for the commands that change no area
-  quiet : (q : Plan) (r : Answered) → Accepted Quiet q → outcome r tt ≡ settle nothing q (p .state) tt → outcome r (p .areas) ≡ settle afterAll q (p .state) (p .areas)
+  quiet : (q : Plan) (r : Answered) → Accepted Quiet q → outcome r tt ≡ carry nothing q (p .state) tt → outcome r (p .areas) ≡ carry afterAll q (p .state) (p .areas)
   quiet q r k e = joined withNone nothing (p .state) (p .areas) tt q r tt refl k e
 
   -- geometry mode
-  pub joined-geometry : (off on : ℕ) (r : Answered) → outcome r tt ≡ settle nothing (geometryPlan f (p .state) off on) (p .state) tt → outcome r (p .areas) ≡ result (plan f slots) (geometry off on) p
+  pub joined-geometry : (off on : ℕ) (r : Answered) → outcome r tt ≡ carry nothing (geometryPlan f (p .state) off on) (p .state) tt → outcome r (p .areas) ≡ result (plan f slots) (geometry off on) p
   unfolding result plan book
   joined-geometry off on r e = quiet _ r (on-geometry Quiet (λ _ _. refl) (p .state) f off on) e
 
   -- texture
-  pub joined-texture : (tile level : ℕ) (on : Bool) (sc tc : ℕ) (r : Answered) → outcome r tt ≡ settle nothing (texturePlan (p .state) tile level on sc tc) (p .state) tt
+  pub joined-texture : (tile level : ℕ) (on : Bool) (sc tc : ℕ) (r : Answered) → outcome r tt ≡ carry nothing (texturePlan (p .state) tile level on sc tc) (p .state) tt
       → outcome r (p .areas) ≡ result (plan f slots) (texture tile level on sc tc) p
   unfolding result plan book
   joined-texture tile level on sc tc r e = quiet _ r (on-texture Quiet (λ _ _. refl) (p .state) tile level on sc tc) e
 
   -- fog
-  pub joined-fog : (multiplier offset : ℤ) (r : Answered) → outcome r tt ≡ settle nothing (fogPlan (p .state) multiplier offset) (p .state) tt → outcome r (p .areas) ≡ result (plan f slots) (fog multiplier offset) p
+  pub joined-fog : (multiplier offset : ℤ) (r : Answered) → outcome r tt ≡ carry nothing (fogPlan (p .state) multiplier offset) (p .state) tt → outcome r (p .areas) ≡ result (plan f slots) (fog multiplier offset) p
   unfolding result plan book
   joined-fog multiplier offset r e = quiet _ r (on-fog Quiet (λ _ _. refl) (p .state) multiplier offset) e
 
   -- number of lights
-  pub joined-number : (bytes : ℕ) (r : Answered) → outcome r tt ≡ settle nothing (numberPlan (p .state) (lightNumber bytes)) (p .state) tt → outcome r (p .areas) ≡ result (plan f slots) (number bytes) p
+  pub joined-number : (bytes : ℕ) (r : Answered) → outcome r tt ≡ carry nothing (numberPlan (p .state) (lightNumber bytes)) (p .state) tt → outcome r (p .areas) ≡ result (plan f slots) (number bytes) p
   unfolding result plan book
   joined-number bytes r e = quiet _ r (on-number Quiet (λ _ _. refl) (p .state) (lightNumber bytes)) e
 
   -- light
-  pub joined-light : (slot : ℕ) (bytes : List ℕ) (at : ℕ) (r : Answered) → outcome r tt ≡ settle nothing (lightPlan (p .state) slot bytes at) (p .state) tt
+  pub joined-light : (slot : ℕ) (bytes : List ℕ) (at : ℕ) (r : Answered) → outcome r tt ≡ carry nothing (lightPlan (p .state) slot bytes at) (p .state) tt
       → outcome r (p .areas) ≡ result (plan f slots) (light slot bytes at) p
   unfolding result plan book
   joined-light slot bytes at r e = quiet _ r (on-light Quiet (λ _ _. refl) (p .state) slot bytes at) e
 
   -- lookat
-  pub joined-lookat : (slot : ℕ) (bytes : List ℕ) (at : ℕ) (r : Answered) → outcome r tt ≡ settle nothing (lookatPlan (p .state) slot bytes at) (p .state) tt
+  pub joined-lookat : (slot : ℕ) (bytes : List ℕ) (at : ℕ) (r : Answered) → outcome r tt ≡ carry nothing (lookatPlan (p .state) slot bytes at) (p .state) tt
       → outcome r (p .areas) ≡ result (plan f slots) (lookat slot bytes at) p
   unfolding result plan book
   joined-lookat slot bytes at r e = quiet _ r (on-lookat Quiet (λ _ _. refl) (p .state) slot bytes at) e
 
   -- microcode change
-  pub joined-microcode : (to : Microcode) (r : Answered) → outcome r tt ≡ settle nothing (microcodePlan (p .state) to) (p .state) tt → outcome r (p .areas) ≡ result (plan f slots) (microcode to) p
+  pub joined-microcode : (to : Microcode) (r : Answered) → outcome r tt ≡ carry nothing (microcodePlan (p .state) to) (p .state) tt → outcome r (p .areas) ≡ result (plan f slots) (microcode to) p
   unfolding result plan book
   joined-microcode to r e = quiet _ r (on-microcode Quiet (λ _ _. refl) (p .state) to) e
 
   -- cull test
-  pub joined-cull : (first last : ℕ) (r : Answered) → outcome r tt ≡ settle nothing (cullPlan slots (p .state) first last) (p .state) tt → outcome r (p .areas) ≡ result (plan f slots) (cull first last) p
+  pub joined-cull : (first last : ℕ) (r : Answered) → outcome r tt ≡ carry nothing (cullPlan slots (p .state) first last) (p .state) tt → outcome r (p .areas) ≡ result (plan f slots) (cull first last) p
   unfolding result plan book
   joined-cull first last r e = quiet _ r (on-cull Quiet slots (p .state) first last (λ _ _ _. refl)) e
 
   -- depth test
-  pub joined-depth : (slot threshold : ℕ) (r : Answered) → outcome r tt ≡ settle nothing (depthPlan slots (p .state) slot threshold) (p .state) tt
+  pub joined-depth : (slot threshold : ℕ) (r : Answered) → outcome r tt ≡ carry nothing (depthPlan slots (p .state) slot threshold) (p .state) tt
       → outcome r (p .areas) ≡ result (plan f slots) (depth slot threshold) p
   unfolding result plan book
   joined-depth slot threshold r e = quiet _ r (on-depth Quiet slots (p .state) slot threshold (λ _ _. refl)) e
 
   -- ink count: what it reads of tables 7 and 8 stays
   pub joined-ink : (colour : ℕ) (r : Answered)
-      → outcome r tt ≡ settle nothing (inkPlan (p .state) (rowTable (p .state .counts .rows) (p .areas .floats) (p .areas .words)) (table 1 (p .state .counts .indices) (p .areas .indices)) colour) (p .state) tt
+      → outcome r tt ≡ carry nothing (inkPlan (p .state) (rowTable (p .state .counts .rows) (p .areas .floats) (p .areas .words)) (table 1 (p .state .counts .indices) (p .areas .indices)) colour) (p .state) tt
       → outcome r (p .areas) ≡ result (plan f slots) (ink colour) p
   unfolding result plan book
   joined-ink colour r e = quiet _ r (on-ink Quiet (p .state) _ _ colour (λ _. refl)) e
@@ -253,7 +253,7 @@ module _ (f : Family) (slots : ℕ) (p : Port) where
 -- opening: the port that its contract gives
 pub joined-opening : (l : Areas) (r : Answered) (x : List Float × List Float)
     → let y : List Float × List Float = (l .matrices, l .viewports) in
-    outcome r x ≡ settle areas12 (openingPlan (l .matrices) (l .viewports)) (blank false) y
+    outcome r x ≡ carry areas12 (openingPlan (l .matrices) (l .viewports)) (blank false) y
     → opening l ≡ record { state = r .state; areas = with12 l x }
 unfolding opening
 joined-opening l r x e = λ i. record { state = sym e i .state; areas = with12 l (sym e i .areas) }

@@ -10,11 +10,11 @@ use lib.Ieee.{Float}
 use borrow.Author.Tests.{le-leb}
 use Rattle.areas.specs.Area.{room}
 use Rattle.decide.specs.Family.{Family}
-use Rattle.matrix.specs.Math.{unit, laid}
+use Rattle.matrix.specs.Math.{identity, laid}
 use Rattle.matrix.proofs.Believe.{length-laid}
 use Rattle.stage.specs.declared.State.{State}
 use Rattle.stage.specs.declared.Counts.{Counts}
-use Rattle.stage.specs.Plan.{grow, Plan, refuse, does, unless, settle}
+use Rattle.stage.specs.Plan.{grow, Plan, refuse, does, unless, carry}
 use Rattle.stage.specs.Sound.{all, stateSound, sound}
 use Rattle.stage.specs.With.{withCounts}
 use Rattle.stage.specs.Opening.{zeros, blank, opened, openingEdits, openingPlan, areas12}
@@ -27,7 +27,7 @@ use Rattle.sequence.specs.Sequence.{Command, matrix, force, pop, viewpor
 use Rattle.sequence.proofs.Turn.{turn}
 use Rattle.sequence.proofs.Accepts.{Accepted}
 use Rattle.sequence.proofs.Sized.{Fits, AllSized, kept, fitted}
-use Rattle.sequence.proofs.Held.{carry, carried}
+use Rattle.sequence.proofs.Held.{portAfter, carried}
 
 -- ---- opening
 
@@ -40,7 +40,7 @@ abbrev pub opened-book : Areas → Book
 opened-book l =
     record {
       state = withCounts opened opened-counts;
-      matrices = record { used = laid unit ∷ []; room = room 16 (length (l .matrices)) };
+      matrices = record { used = laid identity ∷ []; room = room 16 (length (l .matrices)) };
       viewports = record { used = zeros 6 ∷ []; room = room 6 (length (l .viewports)) };
       scales = record { used = []; room = room 4 (length (l .scales)) };
       lights = record { used = []; room = room 6 (length (l .lights)) };
@@ -57,7 +57,7 @@ opened-alike x y e =
     λ i.
     record {
       state = withCounts opened opened-counts;
-      matrices = record { used = laid unit ∷ []; room = room 16 (e .matrices i) };
+      matrices = record { used = laid identity ∷ []; room = room 16 (e .matrices i) };
       viewports = record { used = zeros 6 ∷ []; room = room 6 (e .viewports i) };
       scales = record { used = []; room = room 4 (e .scales i) };
       lights = record { used = []; room = room 6 (e .lights i) };
@@ -96,8 +96,8 @@ module _ (l : Areas) (h : 1 ≤ room 16 (length (l .matrices))) (k : 1 ≤ room 
   open-plan = rw (le-leb 1 (room 16 (length (l .matrices))) h, le-leb 1 (room 6 (length (l .viewports))) k)
 
   -- it is a plan on the areas before
-  open-done : opening l ≡ carry (does [] opened openingEdits) (unopened l)
-  unfolding opening settle
+  open-done : opening l ≡ portAfter (does [] opened openingEdits) (unopened l)
+  unfolding opening carry
   open-done = rw open-plan
 
   -- its edits are sized
@@ -106,7 +106,7 @@ module _ (l : Areas) (h : 1 ≤ room 16 (length (l .matrices))) (k : 1 ≤ room 
   open-sized =
       let z = none-used l in
       record {
-        matrices = fitted 16 0 (grow (laid unit ∷ [])) (l .matrices) (length-laid unit, tt) h;
+        matrices = fitted 16 0 (grow (laid identity ∷ [])) (l .matrices) (length-laid identity, tt) h;
         viewports = fitted 6 0 (grow (zeros 6 ∷ [])) (l .viewports) (refl, tt) k;
         scales = kept 4 0 _ (z .scales);
         lights = kept 6 0 _ (z .lights);
@@ -133,9 +133,9 @@ open-book l h k =
 -- two tests of which one fails refuse
 refused : (a b : Bool) (vs ws : List ℕ) (q : Plan) (l : Areas) → a && b ≡ false
     → let x : List Float × List Float = (l .matrices, l .viewports) in
-    let o = settle areas12 (unless a 9 vs (unless b 9 ws q)) (blank false) x in
+    let o = carry areas12 (unless a (refuse 9 vs) (unless b (refuse 9 ws) q)) (blank false) x in
     record { state = o .state; areas = with12 l (o .areas) } ≡ unopened l
-unfolding settle unless
+unfolding carry unless
 refused true true vs ws q l e = absurd (false≢true (cc))
 refused true false vs ws q l e = refl
 refused false b vs ws q l e = refl
@@ -175,7 +175,7 @@ shut-plan f slots (ink colour) k h = unsound (k .state) _ h
 
 -- and leaves it and the areas
 pub shut : (f : Family) (slots : ℕ) (c : Command) (p : Port) → p .state .opened ≡ false → step (plan f slots) c p ≡ p
-unfolding step result settle book
+unfolding step result carry book
 shut f slots c p h = rw (shut-plan f slots c (book p) h)
 
 -- so does a sequence of commands

@@ -2,16 +2,16 @@
 use mathlib.Core.Path.{_≡_, refl, sym, ap, _∙_}
 use mathlib.Core.Bool.{Bool, true, false, false≢true}
 use mathlib.Core.List.{List, [], _∷_}
-use Rattle.stage.specs.Plan.{Plan, refuse, does, pick, settle}
+use Rattle.stage.specs.Plan.{Plan, refuse, does, pick, carry}
 use Rattle.sequence.specs.Sequence.{Command, Port, Machine, book, result, step, run, isDone, accepted}
-use Rattle.sequence.proofs.Held.{carry}
+use Rattle.sequence.proofs.Held.{portAfter}
 
 -- a refused command hands back the very state and the very areas
 pub refused-rests : (m : Machine) (c : Command) (p : Port) → isDone (m c (book p)) ≡ false → step m c p ≡ p
-unfolding step result settle
+unfolding step result carry
 refused-rests m c p h = rest (m c (book p)) h
   where
-    rest : (q : Plan) → isDone q ≡ false → carry q p ≡ p
+    rest : (q : Plan) → isDone q ≡ false → portAfter q p ≡ p
     rest (refuse n vs) e = refl
     rest (does vs t x) e = absurd (false≢true (sym e))
 

@@ -27,7 +27,7 @@ use Rattle.stage.specs.declared.Counts.{Counts}
 use Rattle.stage.specs.declared.load.Settled.{Settled}
 use Rattle.stage.specs.Plan.{table, rowTable, Edit, keep, grow, patch, Row, rowFloats, rowWords, only, Edits, pick, more, untouched}
 use Rattle.stage.specs.Matrices.{edits1, edits2, combine, viewportEntry}
-use Rattle.stage.specs.Load.{fogPair, settled, sharedBy, rowOf, onlyIf, loadEdits, loadLent, loadPlan}
+use Rattle.stage.specs.Load.{fogPair, settled, sharedBy, vertexRow, onlyIf, loadEdits, loadLent, loadPlan}
 use Rattle.stage.specs.Modify.{slotOf, tablesOf, rowEdit, rowChange, scaleEdit, modifyPlan}
 use Rattle.stage.specs.Draw.{triangle, runEdit, drawPlan}
 use Rattle.stage.proofs.RowEntries.{length-rows, row-at}
@@ -218,7 +218,7 @@ module _ (p : Port) (h : Fits p) where
 
   -- what a load gives each table is sized, where the matrix and the scales that are settled have their widths
   sized-edits : (d : Settled) (vs : List Vertex)
-      → EditOk 16 (p .state .counts .matrices) (onlyIf (d .matrix) (d .combined ∷ []))
+      → EditOk 16 (p .state .counts .matrices) (onlyIf (d .newmatrix) (d .combined ∷ []))
       → length (d .scales) ≡ 4
       → Fit (loadLent (loadOf (book p)) (loadEdits d (p .state) vs))
       → AllSized (p .state .counts) (loadEdits d (p .state) vs) (p .areas)
@@ -229,17 +229,17 @@ module _ (p : Port) (h : Fits p) where
       let l = p .areas in
       let o = sharedBy d s in
       let r =
-      fitted-rows (c .rows) (grow (map (rowOf o) vs)) (l .floats) (l .words)
-      (wide-rows rowFloats 9 (rowOf o) floats-size vs)
-      (wide-rows rowWords 10 (rowOf o) (words-size o) vs)
+      fitted-rows (c .rows) (grow (map (vertexRow o) vs)) (l .floats) (l .words)
+      (wide-rows rowFloats 9 (vertexRow o) floats-size vs)
+      (wide-rows rowWords 10 (vertexRow o) (words-size o) vs)
       (k .1 .1 .1 .1 .1 .0) in
       record {
         matrices = fitted 16 (c .matrices) _ (l .matrices) m (k .0);
         viewports = all-kept .viewports;
-        scales = fitted 4 (c .scales) _ (l .scales) (wide-if 4 _ (d .scale) (d .scales ∷ []) (e, tt)) (k .1 .0);
-        lights = fitted 6 (c .lights) _ (l .lights) (wide-if 6 _ (d .light) _ (wide-lights (rows (d .model) 0) (s .lights .directions) (s .lights .colours) (s .lights .ambient) (s .lights .number))) (k .1 .1 .0);
-        lookats = fitted 6 (c .lookats) _ (l .lookats) (wide-if 6 _ (d .look) _ (length-lookat (rows (d .model) 0) (s .lookat .axes), tt)) (k .1 .1 .1 .0);
-        fogs = fitted 2 (c .fogs) _ (l .fogs) (wide-if 2 _ (d .fog) (fogPair s ∷ []) (refl, tt)) (k .1 .1 .1 .1 .0);
+        scales = fitted 4 (c .scales) _ (l .scales) (wide-if 4 _ (d .newscale) (d .scales ∷ []) (e, tt)) (k .1 .0);
+        lights = fitted 6 (c .lights) _ (l .lights) (wide-if 6 _ (d .newlights) _ (wide-lights (rows (d .model) 0) (s .lights .directions) (s .lights .colours) (s .lights .ambient) (s .lights .number))) (k .1 .1 .0);
+        lookats = fitted 6 (c .lookats) _ (l .lookats) (wide-if 6 _ (d .newlookat) _ (length-lookat (rows (d .model) 0) (s .lookat .axes), tt)) (k .1 .1 .1 .0);
+        fogs = fitted 2 (c .fogs) _ (l .fogs) (wide-if 2 _ (d .newfog) (fogPair s ∷ []) (refl, tt)) (k .1 .1 .1 .1 .0);
         floats = r .0;
         words = r .1;
         indices = all-kept .indices;

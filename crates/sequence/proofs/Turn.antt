@@ -1,4 +1,4 @@
--- A plan entered into a book, as `settle` enters it into state and areas. Definitions only.
+-- A plan entered into a book, as `carry` enters it into state and areas. Definitions only.
 use Prim.Native.Nat.{_+_}
 use mathlib.Core.List.{List, [], _∷_, _++_}
 use lib.ListN.{set}

@@ -12,7 +12,7 @@ use Rattle.decide.specs.Lights.{lightNumber}
 use Rattle.stage.specs.declared.State.{State}
 use Rattle.stage.specs.declared.Counts.{Counts}
 use Rattle.stage.specs.declared.settings.Microcode.{Microcode}
-use Rattle.stage.specs.Plan.{Table, table, rowTable, Row, rowFloats, rowWords, only, Edits, Plan, refuse, does, pick, after, Outcome, settle}
+use Rattle.stage.specs.Plan.{Table, table, rowTable, Row, rowFloats, rowWords, only, Edits, Plan, refuse, does, pick, after, Outcome, carry}
 use Rattle.stage.specs.Opening.{blank, openingPlan, areas12}
 use Rattle.stage.specs.Matrices.{matrixPlan, forcePlan, popPlan, viewportPlan, geometryPlan}
 use Rattle.stage.specs.Lights.{texturePlan, fogPlan, numberPlan, lightPlan, lookatPlan, microcodePlan}
@@ -149,7 +149,7 @@ Machine = Command → Book → Plan
 
 -- what a command comes to: answer, state and areas
 unfoldable pub result : Machine → Command → Port → Outcome Areas
-result m c p = settle afterAll (m c (book p)) (p .state) (p .areas)
+result m c p = carry afterAll (m c (book p)) (p .state) (p .areas)
 
 -- the port after a command
 unfoldable pub step : Machine → Command → Port → Port
@@ -190,7 +190,7 @@ with12 l x =
 unfoldable pub opening : Areas → Port
 opening l =
     let x : List Float × List Float = (l .matrices, l .viewports) in
-    let o = settle areas12 (openingPlan (l .matrices) (l .viewports)) (blank false) x in
+    let o = carry areas12 (openingPlan (l .matrices) (l .viewports)) (blank false) x in
     record { state = o .state; areas = with12 l (o .areas) }
 
 -- areas of equal lengths, whatever stands in them

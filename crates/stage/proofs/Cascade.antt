@@ -12,7 +12,7 @@ use Rattle.stage.specs.declared.State.{State}
 use Rattle.stage.specs.declared.Counts.{Counts}
 use Rattle.stage.specs.declared.Answer.{Answer}
 use Rattle.stage.specs.Answers.{number, values}
-use Rattle.stage.specs.Plan.{Edits, Plan, unless, pick, Outcome, outcome, settle}
+use Rattle.stage.specs.Plan.{Edits, Plan, refuse, unless, pick, Outcome, outcome, carry}
 
 -- `if !f() {` was taken, or left, where f answers b
 pub fails : {r b : Bool} → r ≡ b → not r ≡ true → b ≡ false
@@ -23,13 +23,13 @@ holds {r} e h = sym e ∙ not-false r h
 
 -- a refusal is what the plan comes to where its test fails
 pub refused : {A : Type 0} (f : Counts → Edits → A → A) (s : State) (l : A) (b : Bool) (p : Plan) (a : Answer) → b ≡ false
-    → outcome (record { state = s; answer = a }) l ≡ settle f (unless b (number a) (values a) p) s l
-unfolding unless settle
+    → outcome (record { state = s; answer = a }) l ≡ carry f (unless b (refuse (number a) (values a)) p) s l
+unfolding unless carry
 refused f s l b p a e = rw e
 
 -- where its test holds, the plan comes to what follows
 pub passed : {A : Type 0} (f : Counts → Edits → A → A) (s : State) (l : A) (b : Bool) (n : ℕ) (vs : List ℕ) (p : Plan) (o : Outcome A) → b ≡ true
-    → o ≡ settle f p s l → o ≡ settle f (unless b n vs p) s l
+    → o ≡ carry f p s l → o ≡ carry f (unless b (refuse n vs) p) s l
 unfolding unless
 passed f s l b n vs p o e h = rw e h
 

@@ -27,10 +27,10 @@ use Rattle.change.proofs.Accepted.{through}
 use Rattle.stage.specs.declared.State.{State}
 use Rattle.stage.specs.declared.Answer.the-variants.{Done}
 use Rattle.stage.specs.Answers.{number, values}
-use Rattle.stage.specs.Plan.{Table, Edit, keep, grow, patch, Row, Plan, refuse, does, unless, pick, more, table, outcome, settle, rowTable}
+use Rattle.stage.specs.Plan.{Table, Edit, keep, grow, patch, Row, Plan, refuse, does, unless, pick, more, table, outcome, carry, rowTable}
 use Rattle.stage.specs.Sound.{sound}
 use Rattle.stage.specs.With.{withCounts}
-use Rattle.stage.specs.Modify.{areas37, edits37, answerOf, slotOf, tablesOf, asking, scaleEdit, rowEdit, rowChange, changed, countsTo, changePlan}
+use Rattle.stage.specs.Modify.{areas37, edits37, modifyAnswer, slotOf, tablesOf, asking, scaleEdit, rowEdit, rowChange, changed, countsTo, changePlan}
 use Rattle.stage.proofs.RowEntries.{length-rows, row-at, rows-in}
 
 -- one entry appended, or none, as a count has it
@@ -46,16 +46,16 @@ tells false n = le-ltb n n (omega arith)
 
 -- the plan that a verdict stands for
 abbrev pub planned : State → Table Row → ℕ → ℕ → Verdict → Plan
-planned s rows slot attribute (No r) = refuse (number (answerOf slot attribute r)) (values (answerOf slot attribute r))
+planned s rows slot attribute (No r) = refuse (number (modifyAnswer slot attribute r)) (values (modifyAnswer slot attribute r))
 planned s rows slot attribute (Go c m) = does [] (changed c m s slot) (edits37 (scaleEdit c s) (rowChange c m s rows slot))
 
 -- a test of the judge is the same test of the plan
 step : (s : State) (rows : Table Row) (slot attribute : ℕ) (a b : Bool) (r : Refusal) (v : Verdict) (p : Plan) → a ≡ b → p ≡ planned s rows slot attribute v
-    → unless b (number (answerOf slot attribute r)) (values (answerOf slot attribute r)) p ≡ planned s rows slot attribute (except a r v)
+    → unless b (refuse (number (modifyAnswer slot attribute r)) (values (modifyAnswer slot attribute r))) p ≡ planned s rows slot attribute (except a r v)
 unfolding except unless
 step s rows slot attribute a b r v p e h = rw e (by b)
   where
-    by : (b : Bool) → unless b (number (answerOf slot attribute r)) (values (answerOf slot attribute r)) p ≡ planned s rows slot attribute (except b r v)
+    by : (b : Bool) → unless b (refuse (number (modifyAnswer slot attribute r)) (values (modifyAnswer slot attribute r))) p ≡ planned s rows slot attribute (except b r v)
     by true = h
     by false = refl
 
@@ -65,8 +65,8 @@ settled : (a d : Bool) (i : ℕ) (r : Row) (s t : State) (l f : List Float) (w :
     let n7 = s .counts .rows in
     let m : Moved = record { row = cond d n7 i; rows = cond d (n7 + 1) n7; scales = cond a (n3 + 1) n3; unit = 0 } in
     outcome (record { state = withCounts t (countsTo m (s .counts)); answer = Done }) (cond a (write 4 n3 (unitEntry ∷ []) l) l, write 9 (m .row) (r .floats ∷ []) f, write 10 (m .row) (r .words ∷ []) w)
-    ≡ settle areas37 (does [] t (edits37 (pick a (grow (unitEntry ∷ [])) keep) (rowEdit d i r))) s (l, f, w)
-unfolding pick settle
+    ≡ carry areas37 (does [] t (edits37 (pick a (grow (unitEntry ∷ [])) keep) (rowEdit d i r))) s (l, f, w)
+unfolding pick carry
 settled true true i r s t l f w = refl
 settled true false i r s t l f w = refl
 settled false true i r s t l f w = refl
@@ -115,8 +115,8 @@ module _ (slots : ℕ) (s : State) (l f : List Float) (w : List ℕ) (slot attri
 
   -- a refusal of the judge is what the plan comes to
   pub refused-by : (k : Asked) (r : Refusal) → verdict slots s l f w slot k ≡ No r
-      → outcome (record { state = s; answer = answerOf slot attribute r }) (l, f, w) ≡ settle areas37 (plan slots s l f w slot attribute k) s (l, f, w)
-  unfolding settle
+      → outcome (record { state = s; answer = modifyAnswer slot attribute r }) (l, f, w) ≡ carry areas37 (plan slots s l f w slot attribute k) s (l, f, w)
+  unfolding carry
   refused-by k r e = rw (verdict-plan k, e)
 
   module _ (k : Asked) (c : Change) (m : Moved) (e : verdict slots s l f w slot k ≡ Go c m) where
@@ -126,7 +126,7 @@ module _ (slots : ℕ) (s : State) (l f : List Float) (w : List ℕ) (slot attri
         → y ≡ write 9 (m .row) (floatsAfter c (part f (getD (s .row) slot 0 * 9) 9) ∷ []) f
         → z ≡ write 10 (m .row) (wordsAfter c (m .unit - 1) (part w (getD (s .row) slot 0 * 10) 10) ∷ []) w
         → t ≡ withCounts (changed c m s slot) (countsTo m (s .counts))
-        → outcome (record { state = t; answer = Done }) (x, y, z) ≡ settle areas37 (plan slots s l f w slot attribute k) s (l, f, w)
+        → outcome (record { state = t; answer = Done }) (x, y, z) ≡ carry areas37 (plan slots s l f w slot attribute k) s (l, f, w)
     unfolding comesTo
     accepted t x y z ex ey ez et =
         let h = through k _ _ c m e in

@@ -13,7 +13,7 @@ use Rattle.stage.specs.declared.State.{State}
 use Rattle.stage.specs.declared.Counts.{Counts}
 use Rattle.stage.specs.declared.Answer.the-variants.{Done, NoRoom}
 use Rattle.stage.specs.With.{withCounts}
-use Rattle.stage.specs.Plan.{Edit, keep, grow, Edits, does, table, after, appending, advance, outcome, settle}
+use Rattle.stage.specs.Plan.{Edit, keep, grow, Edits, does, table, after, appending, advance, outcome, carry}
 use Rattle.stage.proofs.Appends.{append-kept, append-grew, append-full}
 
 -- Table k, of n entries of w numbers in the area l, gets the entry e; E places its edit among those of the tables, and t is the state then.
@@ -22,15 +22,15 @@ module _ (k w n : ℕ) (E : Edit (List Float) → Edits) (g : Counts → Edits �
     (did : record { how = r; area = a } ≡ ended w n e l)
     (place : (d : Edit (List Float)) → g (s .counts) (E d) l ≡ after w n d l) where
   pub entry-kept : r ≡ Kept → n ≤ room w (length l)
-      → outcome (record { state = withCounts t (advance (E keep) (s .counts)); answer = Done }) a ≡ settle g (appending k (table w n l) e (λ d. does [] t (E d))) s l
-  unfolding settle
+      → outcome (record { state = withCounts t (advance (E keep) (s .counts)); answer = Done }) a ≡ carry g (appending k (table w n l) e (λ d. does [] t (E d))) s l
+  unfolding carry
   entry-kept q h = let x = ended-kept w n e l r a did q in rw (append-kept k w n l e (λ d. does [] t (E d)) (x .0) h, x .1, place keep)
 
   pub entry-grew : r ≡ Grew
-      → outcome (record { state = withCounts t (advance (E (grow (e ∷ []))) (s .counts)); answer = Done }) a ≡ settle g (appending k (table w n l) e (λ d. does [] t (E d))) s l
-  unfolding settle
+      → outcome (record { state = withCounts t (advance (E (grow (e ∷ []))) (s .counts)); answer = Done }) a ≡ carry g (appending k (table w n l) e (λ d. does [] t (E d))) s l
+  unfolding carry
   entry-grew q = let x = ended-grew w n e l r a did q in rw (append-grew k w n l e (λ d. does [] t (E d)) (x .0) (x .1), x .2, place (grow (e ∷ [])))
 
-  pub entry-full : r ≡ Full → outcome (record { state = s; answer = NoRoom k }) a ≡ settle g (appending k (table w n l) e (λ d. does [] t (E d))) s l
-  unfolding settle
+  pub entry-full : r ≡ Full → outcome (record { state = s; answer = NoRoom k }) a ≡ carry g (appending k (table w n l) e (λ d. does [] t (E d))) s l
+  unfolding carry
   entry-full q = let x = ended-full w n e l r a did q in rw (append-full k w n l e (λ d. does [] t (E d)) (x .0) (x .1), x .2)

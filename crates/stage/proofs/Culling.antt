@@ -12,12 +12,12 @@ use Rattle.triangle.specs.Slot.{bit}
 use Rattle.stage.specs.declared.State.{State}
 use Rattle.stage.specs.declared.Answer.{Answer}
 use Rattle.stage.specs.declared.Answer.the-variants.{Told, NotLoaded, NoCode}
-use Rattle.stage.specs.Plan.{Plan, does, unless, pick, untouched, nothing, outcome, settle}
+use Rattle.stage.specs.Plan.{Plan, refuse, does, unless, pick, untouched, nothing, outcome, carry}
 use Rattle.stage.specs.Draw.{slotsTo, judgeCodes, codesOf, anded, culled}
 
 -- a test hands back the state as given, and tells its value
-pub told : (s : State) (v w : ℕ) → v ≡ w → outcome (record { state = s; answer = Told v }) tt ≡ settle nothing (does (w ∷ []) s untouched) s tt
-unfolding settle
+pub told : (s : State) (v w : ℕ) → v ≡ w → outcome (record { state = s; answer = Told v }) tt ≡ carry nothing (does (w ∷ []) s untouched) s tt
+unfolding carry
 told s v w e = rw e
 
 slots-next : (i last : ℕ) → i ≤ last → slotsTo i last ≡ i ∷ slotsTo (i + 1) last
@@ -30,8 +30,8 @@ slots-none i last h = let e : last + 1 - i ≡ 0 = omega arith in rw e
 
 -- the refusal of a slot that does not have both marks
 stopped : (s : State) (i : ℕ) (l c : Bool) (p : Plan) → l && c ≡ false
-    → outcome (record { state = s; answer = pick l (NoCode i) (NotLoaded i) }) tt ≡ settle nothing (unless l 3 (i ∷ []) (unless c 4 (i ∷ []) p)) s tt
-unfolding unless pick settle
+    → outcome (record { state = s; answer = pick l (NoCode i) (NotLoaded i) }) tt ≡ carry nothing (unless l (refuse 3 (i ∷ [])) (unless c (refuse 4 (i ∷ [])) p)) s tt
+unfolding unless pick carry
 stopped s i false c p e = refl
 stopped s i true false p e = refl
 stopped s i true true p e = absurd (false≢true (sym e))
@@ -59,12 +59,12 @@ module _ (s : State) (first last m i : ℕ) (w : Walking s first last m i) where
 
   -- a slot is not loaded, or has no code
   pub walk-stops : i ≤ last → getD (s .loaded) i false && getD (s .coded) i false ≡ false → (a : Answer) → a ≡ pick (getD (s .loaded) i false) (NoCode i) (NotLoaded i)
-      → outcome (record { state = s; answer = a }) tt ≡ settle nothing (rest s last 0x0f first) s tt
+      → outcome (record { state = s; answer = a }) tt ≡ carry nothing (rest s last 0x0f first) s tt
   unfolding rest
   walk-stops h e a q = rw (w .same, q, slots-next i last h) (stopped s i _ _ _ e)
 
   -- no slot is left
-  pub walk-ends : last < i → (v : ℕ) → v ≡ bit (not (eqb m 0)) → outcome (record { state = s; answer = Told v }) tt ≡ settle nothing (rest s last 0x0f first) s tt
+  pub walk-ends : last < i → (v : ℕ) → v ≡ bit (not (eqb m 0)) → outcome (record { state = s; answer = Told v }) tt ≡ carry nothing (rest s last 0x0f first) s tt
   unfolding rest
   walk-ends h v e = rw (w .same, slots-none i last h) (told s v (bit (not (eqb m 0))) e)
 

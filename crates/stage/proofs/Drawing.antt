@@ -12,7 +12,7 @@ use Rattle.triangle.specs.Run.{settings, sameRun}
 use Rattle.triangle.specs.Slot.{both, culls}
 use Rattle.triangle.proofs.Slots.{held-below}
 use Rattle.stage.specs.declared.State.{State}
-use Rattle.stage.specs.Plan.{Table, grow, patch, Plan, refuse, does, unless, pick, counted, settle}
+use Rattle.stage.specs.Plan.{Table, grow, patch, Plan, refuse, does, unless, pick, counted, carry}
 use Rattle.stage.specs.With.{withDrawn}
 use Rattle.stage.specs.Draw.{edits89, areas89, mark, triangle, runEdit, drawPlan}
 
@@ -21,13 +21,13 @@ abbrev answers : Plan → ℕ
 answers (refuse n vs) = n
 answers (does vs s e) = 0
 
-answers-is : (p : Plan) (s : State) (l : List ℕ × List ℕ) → settle areas89 p s l .number ≡ answers p
-unfolding settle
+answers-is : (p : Plan) (s : State) (l : List ℕ × List ℕ) → carry areas89 p s l .number ≡ answers p
+unfolding carry
 answers-is (refuse n vs) s l = refl
 answers-is (does vs t e) s l = refl
 
 -- a test of a plan that is accepted holds, and the plan is what follows
-went : (b : Bool) (n : ℕ) (vs : List ℕ) (p : Plan) → answers (unless b (suc n) vs p) ≡ 0 → (b ≡ true) × (unless b (suc n) vs p ≡ p) × (answers p ≡ 0)
+went : (b : Bool) (n : ℕ) (vs : List ℕ) (p : Plan) → answers (unless b (refuse (suc n) vs) p) ≡ 0 → (b ≡ true) × (unless b (refuse (suc n) vs) p ≡ p) × (answers p ≡ 0)
 unfolding unless
 went true n vs p e = (refl, refl, e)
 went false n vs p e = absurd (omega (arith, e))
@@ -91,9 +91,9 @@ module _ (f : Family) (slots : ℕ) (s : State) (t u : Table (List ℕ)) (a b c 
   -- WHAT AN ACCEPTED DRAW RECORDS: where not both sides are culled and the answer is 0, three indices are appended, all three slots count as
   -- drawn, and the run count grows by 0 or 1
   pub accepted-draw : (l : List ℕ × List ℕ) → slots ≤ length (s .drawn) → both f (s .geometry) ≡ false
-      → settle areas89 (drawPlan f slots s t u a b c asked) s l .number ≡ 0
-      → Drew s (settle areas89 (drawPlan f slots s t u a b c asked) s l .state) a b c
-  unfolding settle runEdit
+      → carry areas89 (drawPlan f slots s t u a b c asked) s l .number ≡ 0
+      → Drew s (carry areas89 (drawPlan f slots s t u a b c asked) s l .state) a b c
+  unfolding carry runEdit
   accepted-draw l few n h =
       let d = s .drawn in
       let e = accepted-plan (sym (answers-is (drawPlan f slots s t u a b c asked) s l) ∙ h) n in

@@ -14,7 +14,7 @@ use Rattle.stage.specs.declared.State.{State}
 use Rattle.stage.specs.declared.Lights.{Lights}
 use Rattle.stage.specs.declared.Lookat.{Lookat}
 use Rattle.stage.specs.declared.settings.Microcode.{Microcode}
-use Rattle.stage.specs.Plan.{Plan, does, unless, needs, nothing, settle, untouched}
+use Rattle.stage.specs.Plan.{Plan, refuse, does, unless, needs, nothing, carry, untouched}
 use Rattle.stage.specs.Sound.{stateSound, sound}
 use Rattle.stage.specs.Lights.{lightIn, axisIn, lightsTo, lookatTo, slotPlan, lightPlan, lookatPlan, switched, microcodePlan, remains}
 use Rattle.stage.proofs.Cascade.{left}
@@ -25,7 +25,7 @@ pub case-6 : lightNumber 23 ∷ lightNumber 48 ∷ lightNumber 191 ∷ lightNumb
 case-6 = refl
 
 -- two plans behind one test are the same where they are the same once it holds
-unless-same : (b : Bool) (n : ℕ) (vs : List ℕ) (p q : Plan) → (b ≡ true → p ≡ q) → unless b n vs p ≡ unless b n vs q
+unless-same : (b : Bool) (n : ℕ) (vs : List ℕ) (p q : Plan) → (b ≡ true → p ≡ q) → unless b (refuse n vs) p ≡ unless b (refuse n vs) q
 unfolding unless
 unless-same true n vs p q f = f refl
 unless-same false n vs p q f = refl
@@ -52,10 +52,10 @@ unfolding lookatPlan
 lookat-above s slot bytes at h = rw (axis-in-above (s .lookat) slot _ h)
 
 -- A MICROCODE CHANGE KEEPS every slot's row and ever mark, every count, the matrices and the settings
-pub microcode-keeps : (s : State) (m : Microcode) → remains (settle nothing (microcodePlan s m) s tt .state) ≡ remains s
-unfolding microcodePlan unless settle switched
+pub microcode-keeps : (s : State) (m : Microcode) → remains (carry nothing (microcodePlan s m) s tt .state) ≡ remains s
+unfolding microcodePlan unless carry switched
 microcode-keeps s m = by (stateSound s)
   where
-    by : (b : Bool) → remains (settle nothing (unless b 10 [] (does [] (switched s m) untouched)) s tt .state) ≡ remains s
+    by : (b : Bool) → remains (carry nothing (unless b (refuse 10 []) (does [] (switched s m) untouched)) s tt .state) ≡ remains s
     by true = refl
     by false = refl

@@ -32,8 +32,8 @@ use Rattle.stage.proofs.Answer.{the-type}
 use Rattle.stage.specs.declared.load.Settled.{Settled}
 use Rattle.stage.specs.declared.load.More.{More}
 use Rattle.stage.specs.declared.load.Rooms.{Rooms}
-use Rattle.stage.specs.Plan.{Edits, Plan, judge, more, pick, rowsOf, untouched, advance, Outcome, outcome, settle}
-use Rattle.stage.specs.Load.{settled, settledState, sharedBy, loadEdits, loadDone, loadPlan, onlyIf, rowOf, LoadAreas, loadTables, loadLent, sixLent, roomsOf, moreBy, noMore, earlyAnswer, Ranged, TablesAre, areasLoad, fogPair}
+use Rattle.stage.specs.Plan.{Edits, Plan, judge, more, pick, rowsOf, untouched, advance, Outcome, outcome, carry}
+use Rattle.stage.specs.Load.{settled, settledState, sharedBy, loadEdits, loadDone, loadPlan, onlyIf, vertexRow, LoadAreas, loadTables, loadLent, sixLent, roomsOf, moreBy, noMore, earlyAnswer, Ranged, TablesAre, areasLoad, fogPair}
 use Rattle.stage.specs.Sound.{stateSound}
 use Rattle.stage.specs.Rows.{RowsFit, RowsLaid, fillSlots}
 use Rattle.stage.specs.With.{withCounts}
@@ -64,12 +64,12 @@ load-more : (d : Settled) (s : State) (vs : List Vertex) (count : ℕ) → lengt
     → record { matrices = more (loadEdits d s vs .matrices); scales = more (loadEdits d s vs .scales); lights = more (loadEdits d s vs .lights); lookats = more (loadEdits d s vs .lookats); fogs = more (loadEdits d s vs .fogs); rows = more (loadEdits d s vs .rows) } ≡ moreBy d s count
 unfolding loadEdits moreBy
 load-more d s vs count h = λ i. record {
-  matrices = more-if (d .matrix) (d .combined ∷ []) 1 refl i;
-  scales = more-if (d .scale) (d .scales ∷ []) 1 refl i;
-  lights = more-if (d .light) (lightEntries (rows (d .model) 0) (s .lights .directions) (s .lights .colours) (s .lights .ambient) (s .lights .number)) (s .lights .number + 1) (length-lights (rows (d .model) 0) (s .lights .directions) (s .lights .colours) (s .lights .ambient) (s .lights .number)) i;
-  lookats = more-if (d .look) (lookatEntry (rows (d .model) 0) (s .lookat .axes) ∷ []) 1 refl i;
-  fogs = more-if (d .fog) (fogPair s ∷ []) 1 refl i;
-  rows = (length-map vs (rowOf (sharedBy d s)) ∙ h) i;
+  matrices = more-if (d .newmatrix) (d .combined ∷ []) 1 refl i;
+  scales = more-if (d .newscale) (d .scales ∷ []) 1 refl i;
+  lights = more-if (d .newlights) (lightEntries (rows (d .model) 0) (s .lights .directions) (s .lights .colours) (s .lights .ambient) (s .lights .number)) (s .lights .number + 1) (length-lights (rows (d .model) 0) (s .lights .directions) (s .lights .colours) (s .lights .ambient) (s .lights .number)) i;
+  lookats = more-if (d .newlookat) (lookatEntry (rows (d .model) 0) (s .lookat .axes) ∷ []) 1 refl i;
+  fogs = more-if (d .newfog) (fogPair s ∷ []) 1 refl i;
+  rows = (length-map vs (vertexRow (sharedBy d s)) ∙ h) i;
 }
 
 six-numbered : (c : Counts) (m : More) (r : Rooms) → Numbered (sixLent c m r)
@@ -116,11 +116,11 @@ ranged s d x y n l g e r =
 
 -- ---- what the load leaves
 
-rows-floats : (e : Shared) (vs : List Vertex) → map (λ r. r .floats) (map (rowOf e) vs) ≡ map floatsOf vs
+rows-floats : (e : Shared) (vs : List Vertex) → map (λ r. r .floats) (map (vertexRow e) vs) ≡ map floatsOf vs
 rows-floats e [] = refl
 rows-floats e (v ∷ vs) = ap (λ (r : List (List Float)). floatsOf v ∷ r) (rows-floats e vs)
 
-rows-words : (e : Shared) (vs : List Vertex) → map (λ r. r .words) (map (rowOf e) vs) ≡ map (wordsOf e) vs
+rows-words : (e : Shared) (vs : List Vertex) → map (λ r. r .words) (map (vertexRow e) vs) ≡ map (wordsOf e) vs
 rows-words e [] = refl
 rows-words e (v ∷ vs) = ap (λ (r : List (List ℕ)). wordsOf e v ∷ r) (rows-words e vs)
 
@@ -158,8 +158,8 @@ module _ (s s′ t : State) (d : Settled) (e : Shared) (m : List (List Float)) (
   unfolding loadEdits
   counts-then = λ i. withRowCount (tables .counts i) (rows-then i)
     where
-      rows-then : c .rows + count ≡ s .counts .rows + length (map (rowOf (sharedBy d s)) vs)
-      rows-then = ap₂ (λ (a b : ℕ). a + b) (ap (λ (x : Counts). x .rows) (tables .counts)) (sym is-count ∙ sym (length-map vs (rowOf (sharedBy d s))))
+      rows-then : c .rows + count ≡ s .counts .rows + length (map (vertexRow (sharedBy d s)) vs)
+      rows-then = ap₂ (λ (a b : ℕ). a + b) (ap (λ (x : Counts). x .rows) (tables .counts)) (sym is-count ∙ sym (length-map vs (vertexRow (sharedBy d s))))
 
   state-then : t ≡ fillSlots (settledState d s) (rows (d .combined) 0) (sharedBy d s) first (s .counts .rows) vs
   state-then =
@@ -169,13 +169,13 @@ module _ (s s′ t : State) (d : Settled) (e : Shared) (m : List (List Float)) (
       ∙ ap (λ (x : Shared). fillSlots (settledState d s) m x first (s .counts .rows) vs) is-shared
       ∙ ap (λ (x : List (List Float)). fillSlots (settledState d s) x (sharedBy d s) first (s .counts .rows) vs) is-matrix
 
-  floats-then : k .floats ≡ write 9 (s .counts .rows) (map (λ r. r .floats) (map (rowOf (sharedBy d s)) vs)) (l .floats)
+  floats-then : k .floats ≡ write 9 (s .counts .rows) (map (λ r. r .floats) (map (vertexRow (sharedBy d s)) vs)) (l .floats)
   floats-then =
       laid .floats
       ∙ ap (λ (n : ℕ). write 9 n (map floatsOf vs) (l .floats)) base
       ∙ ap (λ (es : List (List Float)). write 9 (s .counts .rows) es (l .floats)) (sym (rows-floats (sharedBy d s) vs))
 
-  words-then : k .words ≡ write 10 (s .counts .rows) (map (λ r. r .words) (map (rowOf (sharedBy d s)) vs)) (l .words)
+  words-then : k .words ≡ write 10 (s .counts .rows) (map (λ r. r .words) (map (vertexRow (sharedBy d s)) vs)) (l .words)
   words-then =
       laid .words
       ∙ ap (λ (n : ℕ). write 10 n (map (wordsOf e) vs) (l .words)) base
@@ -183,8 +183,8 @@ module _ (s s′ t : State) (d : Settled) (e : Shared) (m : List (List Float)) (
       ∙ ap (λ (es : List (List ℕ)). write 10 (s .counts .rows) es (l .words)) (sym (rows-words (sharedBy d s) vs))
 
   pub load-done : outcome (record { state = withCounts t (withRowCount c (c .rows + count)); answer = Told notice }) k
-      ≡ settle areasLoad (loadDone d s first vs) s l
-  unfolding settle loadEdits
+      ≡ carry areasLoad (loadDone d s first vs) s l
+  unfolding carry loadEdits
   load-done = λ i. record {
     state = withCounts (state-then i) (counts-then i);
     number = 0;
@@ -232,16 +232,16 @@ module _ (s : State) (l : LoadAreas) (first count at : ℕ) (bytes : List ℕ) w
   abbrev load-plan : Plan
   load-plan = loadPlan f3dex2 256 s (loadTables (s .counts) l) first count bytes at
 
-  way-state : stateSound s ≡ false → outcome (record { state = s; answer = BadState }) l ≡ settle areasLoad load-plan s l
+  way-state : stateSound s ≡ false → outcome (record { state = s; answer = BadState }) l ≡ carry areasLoad load-plan s l
   unfolding loadPlan
   way-state h = refused areasLoad s l _ _ BadState h
 
-  way-slots : stateSound s ≡ true → (leb count 256 && leb (first + count) 256) ≡ false → outcome (record { state = s; answer = BadLoad count first }) l ≡ settle areasLoad load-plan s l
+  way-slots : stateSound s ≡ true → (leb count 256 && leb (first + count) 256) ≡ false → outcome (record { state = s; answer = BadLoad count first }) l ≡ carry areasLoad load-plan s l
   unfolding loadPlan
   way-slots sound h = passed areasLoad s l _ _ _ _ _ sound (refused areasLoad s l _ _ (BadLoad count first) h)
 
   way-data : stateSound s ≡ true → (leb count 256 && leb (first + count) 256) ≡ true → leb (at + 16 * count) (length bytes) ≡ false
-      → outcome (record { state = s; answer = ShortData (16 * count) }) l ≡ settle areasLoad load-plan s l
+      → outcome (record { state = s; answer = ShortData (16 * count) }) l ≡ carry areasLoad load-plan s l
   unfolding loadPlan
   way-data sound slots h = passed areasLoad s l _ _ _ _ _ sound (passed areasLoad s l _ _ _ _ _ slots (refused areasLoad s l _ _ (ShortData (16 * count)) h))
 
@@ -255,7 +255,7 @@ module _ (s : State) (l : LoadAreas) (first count at : ℕ) (bytes : List ℕ) w
     eight : tables untouched ≡ sixLent (s .counts) noMore (t .rooms)
     eight = six-lent (s .counts) l untouched noMore (t .rooms) (t .is-rooms) refl
 
-    way-short : (shortOf s (t .rooms) ≡ 0 → ⊥) → outcome (record { state = s; answer = ShortArea (shortOf s (t .rooms)) }) l ≡ settle areasLoad load-plan s l
+    way-short : (shortOf s (t .rooms) ≡ 0 → ⊥) → outcome (record { state = s; answer = ShortArea (shortOf s (t .rooms)) }) l ≡ carry areasLoad load-plan s l
     unfolding loadPlan
     way-short h =
         passed areasLoad s l _ _ _ _ _ (t .judged .sound)
@@ -263,7 +263,7 @@ module _ (s : State) (l : LoadAreas) (first count at : ℕ) (bytes : List ℕ) w
         (passed areasLoad s l _ _ _ _ _ (t .judged .reach)
         (table-refused areasLoad s l 8 (tables untouched) _ (ShortArea (shortOf s (t .rooms))) (shortOf s (t .rooms)) (numbered untouched noMore (t .rooms) eight) (ap firstShort (sym eight)) h refl refl)))
 
-    to-eight : shortOf s (t .rooms) ≡ 0 → (p : Plan) (o : Outcome LoadAreas) → o ≡ settle areasLoad p s l → o ≡ settle areasLoad (judge 8 (tables untouched) p) s l
+    to-eight : shortOf s (t .rooms) ≡ 0 → (p : Plan) (o : Outcome LoadAreas) → o ≡ carry areasLoad p s l → o ≡ carry areasLoad (judge 8 (tables untouched) p) s l
     to-eight z p o h = table-passed areasLoad s l 8 (tables untouched) p o (shortOf s (t .rooms)) (numbered untouched noMore (t .rooms) eight) (ap firstShort (sym eight)) z h
 
   -- the early answer, by its four tests
@@ -275,7 +275,7 @@ module _ (s : State) (l : LoadAreas) (first count at : ℕ) (bytes : List ℕ) w
     judgement e₁ e₂ e₃ = record { judged = record { sound = e₁; slots = e₂; reach = e₃ }; rooms = r; is-rooms = is-rooms }
 
     abbrev Refuses : Answer → Type 0
-    Refuses a = outcome (record { state = s; answer = a }) l ≡ settle areasLoad load-plan s l
+    Refuses a = outcome (record { state = s; answer = a }) l ≡ carry areasLoad load-plan s l
 
     -- the tags of every answer but Done
     abbrev others : List ℕ
@@ -319,7 +319,7 @@ module _ (s : State) (l : LoadAreas) (first count at : ℕ) (bytes : List ℕ) w
     abbrev judged-nine : Settled → Plan
     judged-nine x = judge 9 (tables (loadEdits x s vs)) (loadDone x s first vs)
 
-    to-nine : (o : Outcome LoadAreas) → o ≡ settle areasLoad (judged-nine d) s l → o ≡ settle areasLoad load-plan s l
+    to-nine : (o : Outcome LoadAreas) → o ≡ carry areasLoad (judged-nine d) s l → o ≡ carry areasLoad load-plan s l
     unfolding loadPlan
     to-nine o h =
         let j = z .roomed .judged in
@@ -327,12 +327,12 @@ module _ (s : State) (l : LoadAreas) (first count at : ℕ) (bytes : List ℕ) w
         (passed areasLoad s l _ _ _ _ o (j .slots)
         (passed areasLoad s l _ _ _ _ o (j .reach)
         (to-eight (z .roomed) (z .fits) _ o
-        (h ∙ ap (λ (x : Settled). settle areasLoad (judged-nine x) s l) (z .is-settled)))))
+        (h ∙ ap (λ (x : Settled). carry areasLoad (judged-nine x) s l) (z .is-settled)))))
 
-    pub way-full : (full ≡ 0 → ⊥) → outcome (record { state = s; answer = NoRoom full }) l ≡ settle areasLoad load-plan s l
+    pub way-full : (full ≡ 0 → ⊥) → outcome (record { state = s; answer = NoRoom full }) l ≡ carry areasLoad load-plan s l
     way-full h = to-nine _ (table-refused areasLoad s l 9 (tables (loadEdits d s vs)) (loadDone d s first vs) (NoRoom full) full (numbered (loadEdits d s vs) (z .more) (z .roomed .rooms) nine) (z .is-full ∙ ap firstShort (sym nine)) h refl refl)
 
-    pub way-done : full ≡ 0 → (o : Outcome LoadAreas) → o ≡ settle areasLoad (loadDone d s first vs) s l → o ≡ settle areasLoad load-plan s l
+    pub way-done : full ≡ 0 → (o : Outcome LoadAreas) → o ≡ carry areasLoad (loadDone d s first vs) s l → o ≡ carry areasLoad load-plan s l
     way-done e o h = to-nine o (table-passed areasLoad s l 9 (tables (loadEdits d s vs)) (loadDone d s first vs) o full (numbered (loadEdits d s vs) (z .more) (z .roomed .rooms) nine) (z .is-full ∙ ap firstShort (sym nine)) e h)
 
     -- what the writing half asks for

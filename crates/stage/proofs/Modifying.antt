@@ -23,7 +23,7 @@ use Rattle.change.proofs.Kept.{floats-kept, words-kept, position-kept}
 use Rattle.change.proofs.Storing.{part-long, elsewhere, there}
 use Rattle.stage.specs.declared.State.{State}
 use Rattle.stage.specs.declared.Answer.the-variants.{Done}
-use Rattle.stage.specs.Plan.{unless, table, Outcome, outcome, settle, rowTable}
+use Rattle.stage.specs.Plan.{unless, table, Outcome, outcome, carry, rowTable}
 use Rattle.stage.specs.Sound.{stateSound}
 use Rattle.stage.specs.With.{withCounts}
 use Rattle.stage.specs.Modify.{areas37, changed, countsTo, modifyPlan}
@@ -36,7 +36,7 @@ Areas = List Float × List Float × List ℕ
 -- what a modify comes to
 abbrev pub modified : ℕ → State → List Float → List Float → List ℕ → ℕ → ℕ → ℕ → Outcome Areas
 modified slots s l f w slot attribute value =
-    settle areas37 (modifyPlan slots s (table 4 (s .counts .scales) l) (rowTable (s .counts .rows) f w) slot attribute value) s (l, f, w)
+    carry areas37 (modifyPlan slots s (table 4 (s .counts .scales) l) (rowTable (s .counts .rows) f w) slot attribute value) s (l, f, w)
 
 -- no change asks for the unit scale entry where it is there
 there-is : (c : Change) (unit : ℕ) → unit ≢ 0 → appends c unit ≡ false
@@ -62,10 +62,10 @@ module _ (slots : ℕ) (s : State) (l f : List Float) (w : List ℕ) (slot attri
       ))
       )
       → P (modified slots s l f w slot attribute value)
-  unfolding modifyPlan unless settle
+  unfolding modifyPlan unless carry
   by-cases P same done = sounds (stateSound s) refl
     where
-      judges : (v : Verdict) → verdict slots s l f w slot (decoded attribute value) ≡ v → P (settle areas37 (plan slots s l f w slot attribute (decoded attribute value)) s (l, f, w))
+      judges : (v : Verdict) → verdict slots s l f w slot (decoded attribute value) ≡ v → P (carry areas37 (plan slots s l f w slot attribute (decoded attribute value)) s (l, f, w))
       judges (No r) e = subst P (refused-by slots s l f w slot attribute _ r e) (same _ _)
       judges (Go c m) e = subst P (accepted slots s l f w slot attribute _ c m e _ _ _ _ refl refl refl refl) (done c m e)
 

@@ -18,27 +18,27 @@ use Rattle.stage.specs.declared.State.{State}
 use Rattle.stage.specs.declared.Lights.{Lights}
 use Rattle.stage.specs.declared.Lookat.{Lookat}
 use Rattle.stage.specs.Plan.{pick, counted, after}
-use Rattle.stage.specs.Matrices.{top}
+use Rattle.stage.specs.Matrices.{modelTop}
 use Rattle.stage.specs.Load.{combinedNow, fogPair, settled, foldedLights, foldedLookat, onlyIf}
 
 module _ (s : State) (matrices scales : List (List Float)) (fogs : List (List ℤ)) (m e model : List Float) (last same light look lit? foggy : Bool) (texgen p n : ℕ) where
-  pub settled-is : m ≡ combinedNow s → e ≡ scaleEntry (s .texture .sc) (s .texture .tc) → model ≡ laid (top s) → lit? ≡ lit f3dex2 (s .geometry)
+  pub settled-is : m ≡ combinedNow s → e ≡ scaleEntry (s .texture .sc) (s .texture .tc) → model ≡ laid (modelTop s) → lit? ≡ lit f3dex2 (s .geometry)
       → texgen ≡ texgenMode f3dex2 (s .geometry) → foggy ≡ flag 0x10000 (s .geometry) → p ≡ find fogs (fogPair s) → last ≡ matches eq (final matrices) m
       → same ≡ sameScale scales e → light ≡ refold (s .lights .folded) (s .lights .changed) (s .lights .top) model
       → look ≡ refold (s .lookat .folded) (s .lookat .changed) (s .lookat .top) model → n ≡ length fogs
       → record {
         combined = m;
-        matrix = not (s .defined) && not last;
+        newmatrix = not (s .defined) && not last;
         scales = e;
-        scale = not same;
+        newscale = not same;
         model = model;
         lit = lit?;
-        light = lit? && light;
+        newlights = lit? && light;
         texgen = texgen;
-        look = not (eqb texgen 0) && look;
+        newlookat = not (eqb texgen 0) && look;
         foggy = foggy;
         fogat = p;
-        fog = foggy && not (ltb p n);
+        newfog = foggy && not (ltb p n);
       } ≡ settled f3dex2 s matrices scales fogs
   unfolding settled
   settled-is a b c d f g h i j k l o = rw (i, j, k, l, o, h, a, b, c, d, f, g)

@@ -10,7 +10,7 @@ use Rattle.stage.specs.declared.State.{State}
 use Rattle.stage.specs.declared.Counts.{Counts}
 use Rattle.stage.specs.declared.Answer.{Answer}
 use Rattle.stage.specs.Answers.{number, values}
-use Rattle.stage.specs.Plan.{Edits, Plan, refuse, unless, judge, Outcome, outcome, settle}
+use Rattle.stage.specs.Plan.{Edits, Plan, refuse, refuse, unless, judge, Outcome, outcome, carry}
 
 -- each table has a number above 0
 abbrev pub Numbered : List Lent → Type 0
@@ -22,7 +22,7 @@ abbrev byFirst : ℕ → ℕ → Plan → Plan
 byFirst n zero p = p
 byFirst n (suc k) p = refuse n (suc k ∷ [])
 
-one : (n k : ℕ) (b : Bool) (p q : Plan) (r : ℕ) → 0 < k → q ≡ byFirst n r p → unless b n (k ∷ []) q ≡ byFirst n (orElse b k r) p
+one : (n k : ℕ) (b : Bool) (p q : Plan) (r : ℕ) → 0 < k → q ≡ byFirst n r p → unless b (refuse n (k ∷ [])) q ≡ byFirst n (orElse b k r) p
 unfolding orElse unless
 one n zero b p q r h e = absurd (lt-irrefl 0 h)
 one n (suc k) true p q r h e = e
@@ -35,14 +35,14 @@ judged n (t ∷ ts) p h = one n (t .number) (fits t) p (judge n ts p) (firstShor
 
 -- a refusal names the first table that does not fit
 pub table-refused : {A : Type 0} (f : Counts → Edits → A → A) (s : State) (l : A) (n : ℕ) (ts : List Lent) (p : Plan) (a : Answer) (k : ℕ) → Numbered ts → k ≡ firstShort ts → (k ≡ 0 → ⊥)
-    → number a ≡ n → values a ≡ k ∷ [] → outcome (record { state = s; answer = a }) l ≡ settle f (judge n ts p) s l
-unfolding settle
+    → number a ≡ n → values a ≡ k ∷ [] → outcome (record { state = s; answer = a }) l ≡ carry f (judge n ts p) s l
+unfolding carry
 table-refused f s l n ts p a zero g e h x y = absurd (h refl)
 table-refused f s l n ts p a (suc k) g e h x y = rw (judged n ts p g, ← e, x, y)
 
 -- where there is none, the plan comes to what follows
 pub table-passed : {A : Type 0} (f : Counts → Edits → A → A) (s : State) (l : A) (n : ℕ) (ts : List Lent) (p : Plan) (o : Outcome A) (k : ℕ) → Numbered ts → k ≡ firstShort ts → k ≡ 0
-    → o ≡ settle f p s l → o ≡ settle f (judge n ts p) s l
+    → o ≡ carry f p s l → o ≡ carry f (judge n ts p) s l
 table-passed f s l n ts p o k g e z h = rw (judged n ts p g, ← e, z) h
 
 -- each table fits where none is named

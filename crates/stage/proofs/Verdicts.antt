@@ -32,9 +32,9 @@ use Rattle.stage.specs.declared.State.{State}
 use Rattle.stage.specs.declared.Counts.{Counts}
 use Rattle.stage.specs.declared.Answer.{Answer}
 use Rattle.stage.specs.Sound.{stateSound}
-use Rattle.stage.specs.Plan.{keep, grow, Plan, refuse, does, unless, pick, more, lent, judge, table, counted, after, untouched, outcome, settle}
+use Rattle.stage.specs.Plan.{keep, grow, Plan, refuse, does, unless, pick, more, lent, judge, table, counted, after, untouched, outcome, carry}
 use Rattle.stage.specs.With.{withDrawn, withCounts}
-use Rattle.stage.specs.Draw.{edits89, areas89, answerOf, rowOf, placed, mark, triangle, runEdit, drawPlan}
+use Rattle.stage.specs.Draw.{edits89, areas89, drawAnswer, rowOf, placed, mark, triangle, runEdit, drawPlan}
 
 -- ---- the plan by the verdict
 
@@ -50,7 +50,7 @@ byVerdict s k (Record more start count) = k
 module _ (s : State) (k : Plan) where
   -- a test of the plan and the same test of the judge
   step : (b d : Bool) (v rest : Verdict) (n : ℕ) (vs : List ℕ) (p : Plan) → b ≡ d → byVerdict s k v ≡ refuse n vs → (d ≡ true → p ≡ byVerdict s k rest)
-      → unless b n vs p ≡ byVerdict s k (unless′ d v rest)
+      → unless b (refuse n vs) p ≡ byVerdict s k (unless′ d v rest)
   unfolding unless unless′
   step b true v rest n vs p e r h = rw e (h refl)
   step b false v rest n vs p e r h = rw e (sym r)
@@ -76,7 +76,7 @@ run-room false us n w r q e h = rw e
 -- are its settings
 module _ (s : State) (k : Plan) (l m : List ℕ) (n w rows : ℕ) (q : List ℕ) (long : length q ≡ 6) where
   room-plan : (es : List (List ℕ)) → length es ≡ 3 → w ≤ room 8 (length m)
-      → unless (closed (entries 8 w m) (length (entries 1 n l))) 10 []
+      → unless (closed (entries 8 w m) (length (entries 1 n l))) (refuse 10 [])
       (judge 9 (lent 8 (table 1 n l) (grow es) ∷ lent 9 (table 8 w m) (runEdit (entries 8 w m) (length (entries 1 n l)) q) ∷ []) k)
       ≡ byVerdict s k (judgedLast (tablesOf rows n w (length l) (length m)) (lastOf w m q))
   unfolding judgedLast
@@ -88,7 +88,7 @@ module _ (s : State) (k : Plan) (l m : List ℕ) (n w rows : ℕ) (q : List ℕ)
 
   areas-plan : (es : List (List ℕ)) → length es ≡ 3
       → judge 8 (lent 8 (table 1 n l) keep ∷ lent 9 (table 8 w m) keep ∷ [])
-      (unless (closed (entries 8 w m) (length (entries 1 n l))) 10 []
+      (unless (closed (entries 8 w m) (length (entries 1 n l))) (refuse 10 [])
       (judge 9 (lent 8 (table 1 n l) (grow es) ∷ lent 9 (table 8 w m) (runEdit (entries 8 w m) (length (entries 1 n l)) q) ∷ []) k))
       ≡ byVerdict s k (judgedAreas (tablesOf rows n w (length l) (length m)) (lastOf w m q))
   unfolding judgedAreas
@@ -175,8 +175,8 @@ module _ (f : Family) (slots : ℕ) (s : State) (l m : List ℕ) (a b c : ℕ) (
 
 -- a draw that records nothing hands back the state and the areas as given: its verdict is one of the first five
 pub unrecorded : (s : State) (k : Plan) (l : List ℕ × List ℕ) (v : Verdict) → OneOf (0 ∷ 1 ∷ 2 ∷ 3 ∷ 4 ∷ []) (tagOf the-type v)
-    → outcome (record { state = s; answer = answerOf v }) l ≡ settle areas89 (byVerdict s k v) s l
-unfolding settle
+    → outcome (record { state = s; answer = drawAnswer v }) l ≡ carry areas89 (byVerdict s k v) s l
+unfolding carry
 unrecorded s k l Unsound o = refl
 unrecorded s k l Nothing o = refl
 unrecorded s k l (Never i) o = refl
@@ -248,8 +248,8 @@ module _ (f : Family) (slots : ℕ) (s : State) (l m : List ℕ) (a b c : ℕ) (
 
   -- WHERE NOTHING IS RECORDED, the state and the areas are as given, and the answer is the verdict's
   pub draws-nothing : (t : State) (i r : List ℕ) (u v : Verdict) (an : Answer) → v ≡ judgement → OneOf (0 ∷ 1 ∷ 2 ∷ 3 ∷ 4 ∷ []) (tagOf the-type v)
-      → t ≡ s → i ≡ l → r ≡ m → u ≡ v → an ≡ answerOf u
-      → outcome (record { state = t; answer = an }) (i, r) ≡ settle areas89 planned s (l, m)
+      → t ≡ s → i ≡ l → r ≡ m → u ≡ v → an ≡ drawAnswer u
+      → outcome (record { state = t; answer = an }) (i, r) ≡ carry areas89 planned s (l, m)
   draws-nothing t i r u v an ev o et ei er eu ea = rw (et, ei, er, ea, eu, plan, ← ev) (unrecorded s _ (l, m) v o)
 
   -- a triangle is recorded only where it has room
@@ -267,9 +267,9 @@ module _ (f : Family) (slots : ℕ) (s : State) (l m : List ℕ) (a b c : ℕ) (
       → (t : State) → t ≡ withCounts (withDrawn s (set (set (set (s .drawn) (a % slots) true) (b % slots) true) (c % slots) true)) (longerBy x (s .counts))
       → (i : List ℕ) → i ≡ put l (s .counts .indices) (corners (swaps f (s .geometry)) (read a) (read b) (read c))
       → (g : List ℕ) → g ≡ put m ((s .counts .runs + x - 1) * 8) (runOf (settings asked (culls f (s .geometry)) (s .microcode)) y z)
-      → (u : Verdict) → u ≡ Record x y z → (an : Answer) → an ≡ answerOf u
-      → outcome (record { state = t; answer = an }) (i, g) ≡ settle areas89 planned s (l, m)
-  unfolding settle
+      → (u : Verdict) → u ≡ Record x y z → (an : Answer) → an ≡ drawAnswer u
+      → outcome (record { state = t; answer = an }) (i, g) ≡ carry areas89 planned s (l, m)
+  unfolding carry
   draws x y z v ev er t et i ei g eg u eu an ea =
       let h = passes f slots s l m a b c asked (read a) (read b) (read c) v x y z ev er in
       let e = run-effect (s .counts .runs) (s .counts .indices) x y z m _ _ long (h .runs) refl (h .how) in

@@ -18,7 +18,7 @@ use Rattle.stage.specs.declared.State.{State}
 use Rattle.stage.specs.declared.Counts.{Counts}
 use Rattle.stage.specs.declared.Answer.{Answer}
 use Rattle.stage.specs.declared.Answer.the-variants.{Done, NeverLoaded, ShortArea, NoRoom, BadState}
-use Rattle.stage.specs.Plan.{Table, Edit, keep, grow, patch, Edits, Plan, does, unless, pick, lent, judge, after, untouched}
+use Rattle.stage.specs.Plan.{Table, Edit, keep, grow, patch, Edits, Plan, refuse, does, unless, pick, lent, judge, after, untouched}
 use Rattle.stage.specs.Sound.{sound}
 use Rattle.stage.specs.With.{withDrawn}
 
@@ -37,8 +37,8 @@ slotsTo first last = slotsFrom first (last + 1 - first)
 abbrev pub judgeCodes : State → List ℕ → Plan → Plan
 judgeCodes s [] p = p
 judgeCodes s (i ∷ is) p =
-    unless (getD (s .loaded) i false) 3 (i ∷ [])
-    (unless (getD (s .coded) i false) 4 (i ∷ [])
+    unless (getD (s .loaded) i false) (refuse 3 (i ∷ []))
+    (unless (getD (s .coded) i false) (refuse 4 (i ∷ []))
     (judgeCodes s is p))
 
 -- the clip codes of some slots
@@ -58,7 +58,7 @@ culled cs = not (eqb (anded 0x0f cs) 0)
 unfoldable pub cullPlan : ℕ → State → ℕ → ℕ → Plan
 cullPlan slots s first last =
     sound s
-    (unless (leb first last && ltb last slots) 2 (first ∷ last ∷ [])
+    (unless (leb first last && ltb last slots) (refuse 2 (first ∷ last ∷ []))
     (judgeCodes s (slotsTo first last)
     (does (bit (culled (codesOf s (slotsTo first last))) ∷ []) s untouched)))
 
@@ -72,8 +72,8 @@ near s slot threshold = le (getD (s .z) slot nan) (ofRatio binary64 (pos thresho
 unfoldable pub depthPlan : ℕ → State → ℕ → ℕ → Plan
 depthPlan slots s slot threshold =
     sound s
-    (unless (held slots (s .loaded) slot) 3 (slot ∷ [])
-    (unless (getD (s .deep) slot false) 4 (slot ∷ [])
+    (unless (held slots (s .loaded) slot) (refuse 3 (slot ∷ []))
+    (unless (getD (s .deep) slot false) (refuse 4 (slot ∷ []))
     (does (bit (near s slot threshold) ∷ []) s untouched)))
 
 -- ---- draw
@@ -90,7 +90,7 @@ areas89 c e l = (after 1 (c .indices) (e .indices) (l .0), after 8 (c .runs) (e 
 -- 6 with the first of some slots that was never loaded since opening
 abbrev pub judgeEver : ℕ → State → List ℕ → Plan → Plan
 judgeEver slots s [] p = p
-judgeEver slots s (i ∷ is) p = unless (held slots (s .ever) i) 6 (i ∷ []) (judgeEver slots s is p)
+judgeEver slots s (i ∷ is) p = unless (held slots (s .ever) i) (refuse 6 (i ∷ [])) (judgeEver slots s is p)
 
 -- the row of a slot
 abbrev pub rowOf : State → ℕ → ℕ
@@ -122,17 +122,17 @@ drawPlan f slots s t u a b c asked =
     sound s
     (pick (both f (s .geometry)) (does [] s untouched)
     (judgeEver slots s (a ∷ b ∷ c ∷ [])
-    (unless (placed s (a ∷ b ∷ c ∷ [])) 10 []
+    (unless (placed s (a ∷ b ∷ c ∷ [])) (refuse 10 [])
     (judge 8 (lent 8 t keep ∷ lent 9 u keep ∷ [])
-    (unless (closed (u .used) (length (t .used))) 10 []
+    (unless (closed (u .used) (length (t .used))) (refuse 10 [])
     (judge 9 (lent 8 t e ∷ lent 9 u r ∷ [])
     (does [] (withDrawn s (mark (s .drawn) (a ∷ b ∷ c ∷ []))) (edits89 e r))))))))
 
 -- the answer that a verdict stands for
-abbrev pub answerOf : Verdict → Answer
-answerOf Unsound = BadState
-answerOf Nothing = Done
-answerOf (Never slot) = NeverLoaded slot
-answerOf (Short table) = ShortArea table
-answerOf (Full table) = NoRoom table
-answerOf (Record more start count) = Done
+abbrev pub drawAnswer : Verdict → Answer
+drawAnswer Unsound = BadState
+drawAnswer Nothing = Done
+drawAnswer (Never slot) = NeverLoaded slot
+drawAnswer (Short table) = ShortArea table
+drawAnswer (Full table) = NoRoom table
+drawAnswer (Record more start count) = Done

@@ -29,9 +29,9 @@ use Rattle.stage.specs.declared.Lookat.{Lookat}
 use Rattle.stage.specs.declared.load.Settled.{Settled}
 use Rattle.stage.specs.declared.load.More.{More}
 use Rattle.stage.specs.declared.load.Rooms.{Rooms}
-use Rattle.stage.specs.Plan.{Table, Edit, keep, grow, Row, Edits, Plan, unless, pick, does, lent, judge, needs, counted, after, untouched, table, rowTable, rowFloats, rowWords, only}
+use Rattle.stage.specs.Plan.{Table, Edit, keep, grow, Row, Edits, Plan, refuse, unless, pick, does, lent, judge, needs, counted, after, untouched, table, rowTable, rowFloats, rowWords, only}
 use Rattle.stage.specs.Sound.{stateSound, sound}
-use Rattle.stage.specs.Matrices.{top}
+use Rattle.stage.specs.Matrices.{modelTop}
 use Rattle.stage.specs.Rows.{fillSlots}
 use Rattle.stage.specs.With.{withCombined, withLights, withLookat}
 
@@ -48,7 +48,7 @@ pub record LoadTables : Type 0 where
 
 -- the combined matrix in force: an undefined one is recomputed
 abbrev pub combinedNow : State → List Float
-combinedNow s = pick (s .defined) (s .combined) (laid (times (top s) (rows (s .projection) 0)))
+combinedNow s = pick (s .defined) (s .combined) (laid (times (modelTop s) (rows (s .projection) 0)))
 
 abbrev pub fogPair : State → List ℤ
 fogPair s = s .fogmul ∷ s .fogoff ∷ []
@@ -62,17 +62,17 @@ settled f s matrices scales fogs =
     let p = find fogs (fogPair s) in
     record {
       combined = m;
-      matrix = not (s .defined) && not (matches eq (final matrices) m);
+      newmatrix = not (s .defined) && not (matches eq (final matrices) m);
       scales = e;
-      scale = not (sameScale scales e);
-      model = laid (top s);
+      newscale = not (sameScale scales e);
+      model = laid (modelTop s);
       lit = lit f (s .geometry);
-      light = lit f (s .geometry) && refold (s .lights .folded) (s .lights .changed) (s .lights .top) (laid (top s));
+      newlights = lit f (s .geometry) && refold (s .lights .folded) (s .lights .changed) (s .lights .top) (laid (modelTop s));
       texgen = texgenMode f (s .geometry);
-      look = not (eqb (texgenMode f (s .geometry)) 0) && refold (s .lookat .folded) (s .lookat .changed) (s .lookat .top) (laid (top s));
+      newlookat = not (eqb (texgenMode f (s .geometry)) 0) && refold (s .lookat .folded) (s .lookat .changed) (s .lookat .top) (laid (modelTop s));
       foggy = flag (f .fog) (s .geometry);
       fogat = p;
-      fog = flag (f .fog) (s .geometry) && not (ltb p (length fogs));
+      newfog = flag (f .fog) (s .geometry) && not (ltb p (length fogs));
     }
 
 -- entries appended where b says so
@@ -97,10 +97,10 @@ abbrev pub foldedLookat : Lookat → List Float → ℕ → Lookat
 foldedLookat l m n = record { axes = l .axes; changed = false; folded = true; top = m; place = n }
 
 abbrev pub lightsThen : Settled → State → Lights
-lightsThen d s = pick (d .light) (foldedLights (s .lights) (d .model) (s .counts .lights)) (s .lights)
+lightsThen d s = pick (d .newlights) (foldedLights (s .lights) (d .model) (s .counts .lights)) (s .lights)
 
 abbrev pub lookatThen : Settled → State → Lookat
-lookatThen d s = pick (d .look) (foldedLookat (s .lookat) (d .model) (s .counts .lookats)) (s .lookat)
+lookatThen d s = pick (d .newlookat) (foldedLookat (s .lookat) (d .model) (s .counts .lookats)) (s .lookat)
 
 -- the state then, but for its counts: a recomputed matrix stays undefined
 unfoldable pub settledState : Settled → State → State
@@ -110,9 +110,9 @@ settledState d s = withLookat (withLights (withCombined s (d .combined) (s .defi
 unfoldable pub sharedBy : Settled → State → Shared
 sharedBy d s =
     record {
-      matrix = counted (onlyIf (d .matrix) (d .combined ∷ [])) (s .counts .matrices) - 1;
+      matrix = counted (onlyIf (d .newmatrix) (d .combined ∷ [])) (s .counts .matrices) - 1;
       viewport = s .counts .viewports - 1;
-      scale = counted (onlyIf (d .scale) (d .scales ∷ [])) (s .counts .scales) - 1;
+      scale = counted (onlyIf (d .newscale) (d .scales ∷ [])) (s .counts .scales) - 1;
       light = pick (d .lit) (lightsThen d s .first) 0;
       lights = pick (d .lit) (s .lights .number + 1) 0;
       texgen = d .texgen;
@@ -125,20 +125,20 @@ sharedBy d s =
 -- ---- the command
 
 -- a row: its 9 f32 and 10 u32
-abbrev pub rowOf : Shared → Vertex → Row
-rowOf e v = record { floats = floatsOf v; words = wordsOf e v }
+abbrev pub vertexRow : Shared → Vertex → Row
+vertexRow e v = record { floats = floatsOf v; words = wordsOf e v }
 
 -- what each table gets
 unfoldable pub loadEdits : Settled → State → List Vertex → Edits
 loadEdits d s vs =
     record {
-      matrices = onlyIf (d .matrix) (d .combined ∷ []);
+      matrices = onlyIf (d .newmatrix) (d .combined ∷ []);
       viewports = keep;
-      scales = onlyIf (d .scale) (d .scales ∷ []);
-      lights = onlyIf (d .light) (lightEntries (rows (d .model) 0) (s .lights .directions) (s .lights .colours) (s .lights .ambient) (s .lights .number));
-      lookats = onlyIf (d .look) (lookatEntry (rows (d .model) 0) (s .lookat .axes) ∷ []);
-      fogs = onlyIf (d .fog) (fogPair s ∷ []);
-      rows = grow (map (rowOf (sharedBy d s)) vs);
+      scales = onlyIf (d .newscale) (d .scales ∷ []);
+      lights = onlyIf (d .newlights) (lightEntries (rows (d .model) 0) (s .lights .directions) (s .lights .colours) (s .lights .ambient) (s .lights .number));
+      lookats = onlyIf (d .newlookat) (lookatEntry (rows (d .model) 0) (s .lookat .axes) ∷ []);
+      fogs = onlyIf (d .newfog) (fogPair s ∷ []);
+      rows = grow (map (vertexRow (sharedBy d s)) vs);
       indices = keep;
       runs = keep;
     }
@@ -157,7 +157,7 @@ loadPlan f slots s t first count bytes at =
     let d = settled f s (t .matrices .used) (t .scales .used) (t .fogs .used) in
     let vs = verticesAt bytes at count in
     sound s
-    (unless (leb count slots && leb (first + count) slots) 1 (count ∷ first ∷ [])
+    (unless (leb count slots && leb (first + count) slots) (refuse 1 (count ∷ first ∷ []))
     (needs (16 * count) at bytes
     (judge 8 (loadLent t untouched)
     (judge 9 (loadLent t (loadEdits d s vs))
@@ -255,7 +255,7 @@ roomsOf a b l o f x w =
 -- how many entries a load appends to each table
 unfoldable pub moreBy : Settled → State → ℕ → More
 moreBy d s count =
-    record { matrices = pick (d .matrix) 1 0; scales = pick (d .scale) 1 0; lights = pick (d .light) (s .lights .number + 1) 0; lookats = pick (d .look) 1 0; fogs = pick (d .fog) 1 0; rows = count }
+    record { matrices = pick (d .newmatrix) 1 0; scales = pick (d .newscale) 1 0; lights = pick (d .newlights) (s .lights .number + 1) 0; lookats = pick (d .newlookat) 1 0; fogs = pick (d .newfog) 1 0; rows = count }
 
 abbrev pub noMore : More
 noMore = record { matrices = 0; scales = 0; lights = 0; lookats = 0; fogs = 0; rows = 0 }

@@ -34,8 +34,8 @@ area2 c e l = after 6 (c .viewports) (e .viewports) l
 -- ---- matrices
 
 -- the top of the model stack
-abbrev pub top : State → List (List Float)
-top s = rows (s .stack) (16 * (s .depth - 1))
+abbrev pub modelTop : State → List (List Float)
+modelTop s = rows (s .stack) (16 * (s .depth - 1))
 
 -- m becomes the combined matrix, which is defined then, and is appended to table 1 unless the last entry equals it
 unfoldable pub combine : State → Table (List Float) → List Float → Plan
@@ -43,14 +43,14 @@ combine s t m = appending 1 t m (λ e. does [] (withCombined s m true) (edits1 e
 
 -- the combined matrix is the model top times projection
 abbrev pub recombine : State → Table (List Float) → Plan
-recombine s t = combine s t (laid (times (top s) (rows (s .projection) 0)))
+recombine s t = combine s t (laid (times (modelTop s) (rows (s .projection) 0)))
 
 -- the new projection; or the new top, in its place of the stack (a push copies the top, so what is made is made from the same matrix)
 unfoldable pub turned : Bool → Bool → Bool → State → List (List Float) → State
 turned push load projection s m =
     pick projection
     (withProjection s (laid (made load m (rows (s .projection) 0))))
-    (withModel s (pushed push (s .depth)) (put (s .stack) (16 * (pushed push (s .depth) - 1)) (laid (made load m (top s)))))
+    (withModel s (pushed push (s .depth)) (put (s .stack) (16 * (pushed push (s .depth) - 1)) (laid (made load m (modelTop s)))))
 
 -- Matrix: flags push, load, projection; 64 bytes
 unfoldable pub matrixPlan : Family → State → Table (List Float) → ℕ → List ℕ → ℕ → Plan

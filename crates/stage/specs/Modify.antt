@@ -95,18 +95,18 @@ countsTo m c =
     }
 
 -- the answer that a refusal of the judge stands for
-abbrev pub answerOf : ℕ → ℕ → Refusal → Answer
-answerOf slot attribute refusal.Unknown = BadModify slot attribute
-answerOf slot attribute NoRow = BadState
-answerOf slot attribute (Short t) = ShortArea t
-answerOf slot attribute (Full t) = NoRoom t
+abbrev pub modifyAnswer : ℕ → ℕ → Refusal → Answer
+modifyAnswer slot attribute refusal.Unknown = BadModify slot attribute
+modifyAnswer slot attribute NoRow = BadState
+modifyAnswer slot attribute (Short t) = ShortArea t
+modifyAnswer slot attribute (Full t) = NoRoom t
 
 -- a change of a slot: 5, 10 for the slot's row, then tables 3 and 7
 unfoldable pub changePlan : ℕ → State → Table (List Float) → Table Row → ℕ → ℕ → Change → Plan
 changePlan slots s scales rows slot attribute c =
     let m = comesTo c (slotOf slots s slot) (tablesOf s scales rows) in
-    unless (ltb slot slots && getD (s .loaded) slot false) 5 (slot ∷ attribute ∷ [])
-    (unless (ltb (getD (s .row) slot 0) (s .counts .rows)) 10 []
+    unless (ltb slot slots && getD (s .loaded) slot false) (refuse 5 (slot ∷ attribute ∷ []))
+    (unless (ltb (getD (s .row) slot 0) (s .counts .rows)) (refuse 10 [])
     (judge 8 (lent 3 scales keep ∷ lent 7 rows keep ∷ [])
     (judge 9 (lent 3 scales (scaleEdit c s) ∷ lent 7 rows (rowChange c m s rows slot) ∷ [])
     (does [] (changed c m s slot) (edits37 (scaleEdit c s) (rowChange c m s rows slot))))))

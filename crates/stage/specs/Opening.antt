@@ -6,13 +6,13 @@ use lib.ListN.{length, replicate}
 use lib.IntN.{pos}
 use lib.Ieee.{Float}
 use Rattle.areas.specs.Area.{room, write}
-use Rattle.matrix.specs.Math.{zero, unit, laid}
+use Rattle.matrix.specs.Math.{zero, identity, laid}
 use Rattle.stage.specs.declared.State.{State}
 use Rattle.stage.specs.declared.Counts.{Counts}
 use Rattle.stage.specs.declared.Texture.{Texture}
 use Rattle.stage.specs.declared.Lights.{Lights}
 use Rattle.stage.specs.declared.Lookat.{Lookat}
-use Rattle.stage.specs.Plan.{Edits, Edit, keep, grow, Plan, does, judge, Outcome, settle, after, table, lent}
+use Rattle.stage.specs.Plan.{Edits, Edit, keep, grow, Plan, does, judge, Outcome, carry, after, table, lent}
 use Rattle.stage.specs.With.{Slots, state, withModel, withProjection, withCombined}
 
 -- n zeros
@@ -44,12 +44,12 @@ blank mark =
 
 -- one identity on the model stack; projection and combined matrix identity, undefined; all else zero
 unfoldable pub opened : State
-opened = withCombined (withProjection (withModel (blank true) 1 (laid unit ++ zeros 496)) (laid unit)) (laid unit) false
+opened = withCombined (withProjection (withModel (blank true) 1 (laid identity ++ zeros 496)) (laid identity)) (laid identity) false
 
 -- identity as entry 0 of table 1, zeros as entry 0 of table 2
 abbrev pub openingEdits : Edits
 openingEdits =
-    record { matrices = grow (laid unit ∷ []); viewports = grow (zeros 6 ∷ []); scales = keep; lights = keep; lookats = keep; fogs = keep; rows = keep; indices = keep; runs = keep }
+    record { matrices = grow (laid identity ∷ []); viewports = grow (zeros 6 ∷ []); scales = keep; lights = keep; lookats = keep; fogs = keep; rows = keep; indices = keep; runs = keep }
 
 -- Opening: room for one entry in tables 1 and 2, else 9
 unfoldable pub openingPlan : List Float → List Float → Plan

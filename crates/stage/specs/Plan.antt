@@ -10,7 +10,7 @@ use lib.Ieee.{Float, eq}
 use Rattle.areas.specs.Area.{entries, room, write, matches}
 use Rattle.decide.specs.Append.{final}
 use Rattle.decide.specs.Judge.{Lent, fits}
-unfoldable pub use Rattle.decide.specs.Pick.{pick}
+unfoldable pub use Rattle.numbers.specs.Choice.{pick, unless}
 use Rattle.stage.specs.declared.State.{State}
 use Rattle.stage.specs.declared.Counts.{Counts}
 use Rattle.stage.specs.declared.Answered.{Answered}
@@ -83,8 +83,8 @@ pub data Plan : Type 0 where
 
 -- the refusal where the test fails, else what comes after
 unfoldable pub unless : Bool → ℕ → List ℕ → Plan → Plan
-unless true n vs p = p
-unless false n vs p = refuse n vs
+unless true (refuse n vs) p = p
+unless false (refuse n vs) p = refuse n vs
 
 -- how many entries an edit appends
 abbrev pub more : {E : Type 0} → Edit E → ℕ
@@ -99,7 +99,7 @@ lent k t e = record { number = k; used = length (t .used); more = more e; room =
 -- refusal n with the first table, the lowest, that has less room than what it is to hold
 abbrev pub judge : ℕ → List Lent → Plan → Plan
 judge n [] p = p
-judge n (t ∷ ts) p = unless (fits t) n (t .number ∷ []) (judge n ts p)
+judge n (t ∷ ts) p = unless (fits t) (refuse n (t .number ∷ [])) (judge n ts p)
 
 -- the entry e appended, unless the last entry compares equal to it: zeros of either sign are equal, a NaN never is
 unfoldable pub appended : Table (List Float) → List Float → Edit (List Float)
@@ -111,7 +111,7 @@ appending k t e p = judge 9 (lent k t (appended t e) ∷ []) (p (appended t e))
 
 -- refusal 7 where the bytes from place at on are fewer than needed
 abbrev pub needs : ℕ → ℕ → List ℕ → Plan → Plan
-needs n at bytes p = unless (leb (at + n) (length bytes)) 7 (n ∷ []) p
+needs n at bytes p = unless (leb (at + n) (length bytes)) (refuse 7 (n ∷ [])) p
 
 -- ---- outcomes
 
@@ -153,9 +153,9 @@ abbrev pub outcome : {A : Type 0} → Answered → A → Outcome A
 outcome r l = record { state = r .state; number = number (r .answer); values = values (r .answer); areas = l }
 
 -- what a plan comes to, for the state s and the areas l; f says how edits change those areas. A refusal changes nothing
-unfoldable pub settle : {A : Type 0} → (Counts → Edits → A → A) → Plan → State → A → Outcome A
-settle f (refuse n vs) s l = record { state = s; number = n; values = vs; areas = l }
-settle f (does vs t e) s l = record { state = withCounts t (advance e (s .counts)); number = 0; values = vs; areas = f (s .counts) e l }
+unfoldable pub carry : {A : Type 0} → (Counts → Edits → A → A) → Plan → State → A → Outcome A
+carry f (refuse n vs) s l = record { state = s; number = n; values = vs; areas = l }
+carry f (does vs t e) s l = record { state = withCounts t (advance e (s .counts)); number = 0; values = vs; areas = f (s .counts) e l }
 
 -- the areas of a command that is lent none
 abbrev pub nothing : Counts → Edits → Unit {0} → Unit {0}

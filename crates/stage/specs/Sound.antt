@@ -4,7 +4,7 @@ use mathlib.Core.List.{List, [], _∷_}
 use lib.Dec.{leb}
 use Rattle.stage.specs.declared.State.{State}
 use Rattle.stage.specs.declared.Counts.{Counts}
-use Rattle.stage.specs.Plan.{Plan, unless}
+use Rattle.stage.specs.Plan.{Plan, refuse, unless}
 
 -- each of the tests holds
 unfoldable pub all : List Bool → Bool
@@ -33,4 +33,4 @@ stateSound s = all (s .opened ∷ leb 1 (s .depth) ∷ leb (s .depth) 32 ∷ leb
 
 -- refusal 10 for the state's own numbers, else what comes after
 abbrev pub sound : State → Plan → Plan
-sound s p = unless (stateSound s) 10 [] p
+sound s p = unless (stateSound s) (refuse 10 []) p

@@ -2,9 +2,9 @@
 ghost use mathlib.Core.Path.{_≡_};
 ghost use mathlib.Core.List.{[], _∷_};
 ghost use Rattle.decide.specs.Family.{f3dex2};
-ghost use Rattle.stage.specs.Plan.{outcome, settle, table, nothing, pick};
+ghost use Rattle.stage.specs.Plan.{outcome, carry, table, nothing, pick};
 ghost use Rattle.stage.specs.declared.Answer.the-variants.{NotLoaded, NoCode};
-ghost use Rattle.stage.specs.Draw.{cullPlan, depthPlan, areas89, drawPlan, answerOf};
+ghost use Rattle.stage.specs.Draw.{cullPlan, depthPlan, areas89, drawPlan, drawAnswer};
 use crate::Answer;
 use crate::Answered;
 use crate::State;
@@ -26,7 +26,7 @@ fn uncoded(loaded: bool, slot: u32) -> Answer
 
 // The answer of a draw.
 fn answer_of(v: Verdict) -> Answer
-    ensures { λ r. ⌜ r ≡ answerOf v ⌝ }
+    ensures { λ r. ⌜ r ≡ drawAnswer v ⌝ }
 {
     match v {
         Verdict::Unsound => Answer::BadState,
@@ -41,7 +41,7 @@ fn answer_of(v: Verdict) -> Answer
 impl State {
     // Cull test: 1 where the slots first to last all lie outside one of the four side planes, else 0.
     pub fn cull_display_list(self, first: u32, last: u32) -> Answered
-        ensures { λ r. ⌜ outcome r tt ≡ settle nothing (cullPlan 256 self first last) self tt ⌝ }
+        ensures { λ r. ⌜ outcome r tt ≡ carry nothing (cullPlan 256 self first last) self tt ⌝ }
     {
         if !self.sound() {
             return Answered {
@@ -79,7 +79,7 @@ impl State {
 
     // Depth test: 1 where the slot's screen z is at most the threshold over 65536, else 0.
     pub fn branch_z(self, slot: u32, threshold: u32) -> Answered
-        ensures { λ r. ⌜ outcome r tt ≡ settle nothing (depthPlan 256 self slot threshold) self tt ⌝ }
+        ensures { λ r. ⌜ outcome r tt ≡ carry nothing (depthPlan 256 self slot threshold) self tt ⌝ }
     {
         if !self.sound() {
             return Answered {
@@ -123,7 +123,7 @@ impl State {
         indices: &mut [u32],
         runs: &mut [u32],
     ) -> Answered
-        ensures { λ r. ⌜ outcome r (now (indices .exit), now (runs .exit)) ≡ settle areas89 (drawPlan f3dex2 256 self (table 1 (self .counts .indices) (now (indices .entry))) (table 8 (self .counts .runs) (now (runs .entry))) a b c (material ∷ «render_mode» ∷ «fog_colour» ∷ «prim_depth» ∷ [])) self (now (indices .entry), now (runs .entry)) ⌝ }
+        ensures { λ r. ⌜ outcome r (now (indices .exit), now (runs .exit)) ≡ carry areas89 (drawPlan f3dex2 256 self (table 1 (self .counts .indices) (now (indices .entry))) (table 8 (self .counts .runs) (now (runs .entry))) a b c (material ∷ «render_mode» ∷ «fog_colour» ∷ «prim_depth» ∷ [])) self (now (indices .entry), now (runs .entry)) ⌝ }
     {
         let row = self.row;
         let ever = self.ever;

@@ -6,7 +6,7 @@ ghost use lib.ListN.{length};
 ghost use Rattle.areas.specs.Area.{entries, room};
 ghost use Rattle.decide.specs.Family.{f3dex2};
 ghost use Rattle.decide.specs.Judge.{firstShort};
-ghost use Rattle.stage.specs.Plan.{outcome, settle, table, pick};
+ghost use Rattle.stage.specs.Plan.{outcome, carry, table, pick};
 ghost use Rattle.stage.specs.Load.{settled, foldedLights, foldedLookat, combinedNow, sharedBy, settledState, loadEdits, loadPlan, areasLoad, Ranged, TablesAre, roomsOf, sixLent, moreBy, noMore, earlyAnswer, loadAreas, loadTables};
 use crate::Answer;
 use crate::Answered;
@@ -22,17 +22,17 @@ use vertex::Shared;
 // lookat axes are; whether there is fog, the place of its pair, and whether it is appended.
 pub struct Settled {
     pub combined: [f32; 16],
-    pub matrix: bool,
+    pub newmatrix: bool,
     pub scales: [f32; 4],
-    pub scale: bool,
+    pub newscale: bool,
     pub model: [f32; 16],
     pub lit: bool,
-    pub light: bool,
+    pub newlights: bool,
     pub texgen: u32,
-    pub look: bool,
+    pub newlookat: bool,
     pub foggy: bool,
     pub fogat: u32,
-    pub fog: bool,
+    pub newfog: bool,
 }
 
 // How many entries are to be appended to each table of a load.
@@ -202,17 +202,17 @@ impl State {
         let fog = foggy & !(place < self.counts.fogs);
         Settled {
             combined: combined,
-            matrix: matrix,
+            newmatrix: matrix,
             scales: entry,
-            scale: scale,
+            newscale: scale,
             model: model,
             lit: lit,
-            light: light,
+            newlights: light,
             texgen: texgen,
-            look: look,
+            newlookat: look,
             foggy: foggy,
             fogat: place,
-            fog: fog,
+            newfog: fog,
         }
     }
 
@@ -224,8 +224,8 @@ impl State {
         let model = d.model;
         let lights = self.lights;
         let lookat = self.lookat;
-        let l = lights_then(lights, d.light, model, self.counts.lights);
-        let o = lookat_then(lookat, d.look, model, self.counts.lookats);
+        let l = lights_then(lights, d.newlights, model, self.counts.lights);
+        let o = lookat_then(lookat, d.newlookat, model, self.counts.lookats);
         self.combined = combined;
         self.lights = l;
         self.lookat = o;
@@ -240,11 +240,11 @@ impl State {
         let v = self.viewport;
         let n1 = self.counts.matrices;
         let n3 = self.counts.scales;
-        let matrix = decide::number::less_one(decide::number::if_else(d.matrix, n1 + 1, n1));
+        let matrix = decide::number::less_one(decide::number::if_else(d.newmatrix, n1 + 1, n1));
         let viewport = decide::number::less_one(self.counts.viewports);
-        let scale = decide::number::less_one(decide::number::if_else(d.scale, n3 + 1, n3));
-        let first = decide::number::if_else(d.light, self.counts.lights, self.lights.first);
-        let place = decide::number::if_else(d.look, self.counts.lookats, self.lookat.place);
+        let scale = decide::number::less_one(decide::number::if_else(d.newscale, n3 + 1, n3));
+        let first = decide::number::if_else(d.newlights, self.counts.lights, self.lights.first);
+        let place = decide::number::if_else(d.newlookat, self.counts.lookats, self.lookat.place);
         let light = decide::number::if_else(d.lit, first, 0);
         let lights = decide::number::if_else(d.lit, self.lights.number + 1, 0);
         let fog = decide::number::if_else(d.foggy, d.fogat + 1, 0);
@@ -285,10 +285,10 @@ impl State {
         let colours = self.lights.colours;
         let ambient = self.lights.ambient;
         let axes = self.lookat.axes;
-        let n1 = decide::append::put_matrix_if(d.matrix, matrices, c.matrices, combined);
-        let n3 = decide::append::put_scales_if(d.scale, scales, c.scales, entry);
+        let n1 = decide::append::put_matrix_if(d.newmatrix, matrices, c.matrices, combined);
+        let n3 = decide::append::put_scales_if(d.newscale, scales, c.scales, entry);
         let n4 = fold::settle::lights_if(
-            d.light,
+            d.newlights,
             lights,
             c.lights,
             m,
@@ -297,8 +297,8 @@ impl State {
             ambient,
             self.lights.number,
         );
-        let n5 = fold::settle::lookat_if(d.look, lookats, c.lookats, m, axes);
-        let n6 = decide::append::put_fog_if(d.fog, fogs, c.fogs, self.fogmul, self.fogoff);
+        let n5 = fold::settle::lookat_if(d.newlookat, lookats, c.lookats, m, axes);
+        let n6 = decide::append::put_fog_if(d.newfog, fogs, c.fogs, self.fogmul, self.fogoff);
         c.matrices = n1;
         c.scales = n3;
         c.lights = n4;
@@ -312,11 +312,11 @@ impl State {
         requires { ⌜ self .lights .number ≤ 7 ⌝ }
         ensures { λ r. ⌜ r ≡ moreBy d self count ⌝ }
     {
-        let matrices = decide::number::if_else(d.matrix, 1, 0);
-        let scales = decide::number::if_else(d.scale, 1, 0);
-        let lights = decide::number::if_else(d.light, self.lights.number + 1, 0);
-        let lookats = decide::number::if_else(d.look, 1, 0);
-        let fogs = decide::number::if_else(d.fog, 1, 0);
+        let matrices = decide::number::if_else(d.newmatrix, 1, 0);
+        let scales = decide::number::if_else(d.newscale, 1, 0);
+        let lights = decide::number::if_else(d.newlights, self.lights.number + 1, 0);
+        let lookats = decide::number::if_else(d.newlookat, 1, 0);
+        let fogs = decide::number::if_else(d.newfog, 1, 0);
         More {
             matrices: matrices,
             scales: scales,
@@ -363,7 +363,7 @@ impl State {
         floats: &mut [f32],
         words: &mut [u32],
     ) -> Answered
-        ensures { λ r. ⌜ outcome r (loadAreas (now (matrices .exit)) (now (scales .exit)) (now (lights .exit)) (now (lookats .exit)) (now (fogs .exit)) (now (floats .exit)) (now (words .exit))) ≡ settle areasLoad (loadPlan f3dex2 256 self (loadTables (self .counts) (loadAreas (now (matrices .entry)) (now (scales .entry)) (now (lights .entry)) (now (lookats .entry)) (now (fogs .entry)) (now (floats .entry)) (now (words .entry)))) first count (now («data» .entry)) at) self (loadAreas (now (matrices .entry)) (now (scales .entry)) (now (lights .entry)) (now (lookats .entry)) (now (fogs .entry)) (now (floats .entry)) (now (words .entry))) ⌝ }
+        ensures { λ r. ⌜ outcome r (loadAreas (now (matrices .exit)) (now (scales .exit)) (now (lights .exit)) (now (lookats .exit)) (now (fogs .exit)) (now (floats .exit)) (now (words .exit))) ≡ carry areasLoad (loadPlan f3dex2 256 self (loadTables (self .counts) (loadAreas (now (matrices .entry)) (now (scales .entry)) (now (lights .entry)) (now (lookats .entry)) (now (fogs .entry)) (now (floats .entry)) (now (words .entry)))) first count (now («data» .entry)) at) self (loadAreas (now (matrices .entry)) (now (scales .entry)) (now (lights .entry)) (now (lookats .entry)) (now (fogs .entry)) (now (floats .entry)) (now (words .entry))) ⌝ }
     {
         let rooms = rooms_of(matrices, scales, lights, lookats, fogs, floats, words);
         let early = self.early(first, count, data.len(), at, rooms);

@@ -4,8 +4,8 @@ ghost use Prim.Native.Nat.{_<_};
 ghost use lib.ListN.{length};
 ghost use Rattle.areas.specs.Area.{room};
 ghost use Rattle.change.specs.Judged.{rowRoom};
-ghost use Rattle.stage.specs.Plan.{outcome, settle, table, nothing, rowTable};
-ghost use Rattle.stage.specs.Modify.{areas37, answerOf, countsTo, changed, modifyPlan, inkPlan};
+ghost use Rattle.stage.specs.Plan.{outcome, carry, table, nothing, rowTable};
+ghost use Rattle.stage.specs.Modify.{areas37, modifyAnswer, countsTo, changed, modifyPlan, inkPlan};
 ghost use Rattle.stage.specs.With.{withCounts};
 use crate::Answer;
 use crate::Answered;
@@ -19,7 +19,7 @@ use change::judge::Verdict;
 
 // The answer that a refusal of the judge stands for.
 fn answer_of(r: Refusal, slot: u32, attribute: u32) -> Answer
-    ensures { λ a. ⌜ a ≡ answerOf slot attribute r ⌝ }
+    ensures { λ a. ⌜ a ≡ modifyAnswer slot attribute r ⌝ }
 {
     match r {
         Refusal::Unknown => Answer::BadModify(slot, attribute),
@@ -76,7 +76,7 @@ impl State {
         floats: &mut [f32],
         words: &mut [u32],
     ) -> Answered
-        ensures { λ r. ⌜ outcome r (now (scales .exit), now (floats .exit), now (words .exit)) ≡ settle areas37 (modifyPlan 256 self (table 4 (self .counts .scales) (now (scales .entry))) (rowTable (self .counts .rows) (now (floats .entry)) (now (words .entry))) slot attribute value) self (now (scales .entry), now (floats .entry), now (words .entry)) ⌝ }
+        ensures { λ r. ⌜ outcome r (now (scales .exit), now (floats .exit), now (words .exit)) ≡ carry areas37 (modifyPlan 256 self (table 4 (self .counts .scales) (now (scales .entry))) (rowTable (self .counts .rows) (now (floats .entry)) (now (words .entry))) slot attribute value) self (now (scales .entry), now (floats .entry), now (words .entry)) ⌝ }
     {
         if !self.sound() {
             return Answered {
@@ -120,7 +120,7 @@ impl State {
 
     // Ink count: how many indices in use are of rows in use that have the colour word.
     pub fn ink_count(self, colour: u32, floats: &[f32], words: &[u32], indices: &[u32]) -> Answered
-        ensures { λ r. ⌜ outcome r tt ≡ settle nothing (inkPlan self (rowTable (self .counts .rows) (now (floats .entry)) (now (words .entry))) (table 1 (self .counts .indices) (now (indices .entry))) colour) self tt ⌝ }
+        ensures { λ r. ⌜ outcome r tt ≡ carry nothing (inkPlan self (rowTable (self .counts .rows) (now (floats .entry)) (now (words .entry))) (table 1 (self .counts .indices) (now (indices .entry))) colour) self tt ⌝ }
     {
         if !self.sound() {
             return Answered {

@@ -1,7 +1,7 @@
 // Texture, fog, lights and lookat, and the change between microcodes.
 ghost use mathlib.Core.Path.{_≡_};
 ghost use Rattle.decide.specs.Lights.{lightNumber};
-ghost use Rattle.stage.specs.Plan.{outcome, settle, nothing};
+ghost use Rattle.stage.specs.Plan.{outcome, carry, nothing};
 ghost use Rattle.stage.specs.Lights.{texturePlan, fogPlan, lightIn, axisIn, numberPlan, ambientPlan, slotPlan, lightPlan, lookatPlan, microcodeNumber, microcodePlan};
 use crate::Answer;
 use crate::Answered;
@@ -57,7 +57,7 @@ fn with_axis(l: Lookat, slot: u32, direction: [f32; 3]) -> Lookat
 impl State {
     // Texture: the five numbers as given.
     pub fn set_texture(mut self, tile: u8, level: u8, on: bool, sc: u16, tc: u16) -> Answered
-        ensures { λ r. ⌜ outcome r tt ≡ settle nothing (texturePlan self tile level on sc tc) self tt ⌝ }
+        ensures { λ r. ⌜ outcome r tt ≡ carry nothing (texturePlan self tile level on sc tc) self tt ⌝ }
     {
         if !self.sound() {
             return Answered {
@@ -81,7 +81,7 @@ impl State {
 
     // Fog: multiplier and offset.
     pub fn set_fog(mut self, multiplier: i16, offset: i16) -> Answered
-        ensures { λ r. ⌜ outcome r tt ≡ settle nothing (fogPlan self multiplier offset) self tt ⌝ }
+        ensures { λ r. ⌜ outcome r tt ≡ carry nothing (fogPlan self multiplier offset) self tt ⌝ }
     {
         if !self.sound() {
             return Answered {
@@ -99,7 +99,7 @@ impl State {
 
     // So many lights.
     fn numbered(mut self, n: u32) -> Answered
-        ensures { λ r. ⌜ outcome r tt ≡ settle nothing (numberPlan self n) self tt ⌝ }
+        ensures { λ r. ⌜ outcome r tt ≡ carry nothing (numberPlan self n) self tt ⌝ }
     {
         if !self.sound() {
             return Answered {
@@ -117,14 +117,14 @@ impl State {
 
     // Number of lights, told in bytes.
     pub fn set_num_lights(self, bytes: u32) -> Answered
-        ensures { λ r. ⌜ outcome r tt ≡ settle nothing (numberPlan self (lightNumber bytes)) self tt ⌝ }
+        ensures { λ r. ⌜ outcome r tt ≡ carry nothing (numberPlan self (lightNumber bytes)) self tt ⌝ }
     {
         self.numbered(decide::lights::light_number(bytes))
     }
 
     // The ambient colour: 3 bytes.
     fn ambient_from(mut self, data: &[u8], at: usize) -> Answered
-        ensures { λ r. ⌜ outcome r tt ≡ settle nothing (ambientPlan self (now («data» .entry)) at) self tt ⌝ }
+        ensures { λ r. ⌜ outcome r tt ≡ carry nothing (ambientPlan self (now («data» .entry)) at) self tt ⌝ }
     {
         if !decide::judge::reaches(data.len(), at, 3) {
             return Answered {
@@ -145,7 +145,7 @@ impl State {
 
     // A slot's direction and colour: 11 bytes. A slot from 8 on stores nothing.
     fn slot_from(mut self, slot: u32, data: &[u8], at: usize) -> Answered
-        ensures { λ r. ⌜ outcome r tt ≡ settle nothing (slotPlan self slot (now («data» .entry)) at) self tt ⌝ }
+        ensures { λ r. ⌜ outcome r tt ≡ carry nothing (slotPlan self slot (now («data» .entry)) at) self tt ⌝ }
     {
         if !decide::judge::reaches(data.len(), at, 11) {
             return Answered {
@@ -164,7 +164,7 @@ impl State {
 
     // Light: slot = number is the ambient colour.
     pub fn set_light(self, slot: u32, data: &[u8], at: usize) -> Answered
-        ensures { λ r. ⌜ outcome r tt ≡ settle nothing (lightPlan self slot (now («data» .entry)) at) self tt ⌝ }
+        ensures { λ r. ⌜ outcome r tt ≡ carry nothing (lightPlan self slot (now («data» .entry)) at) self tt ⌝ }
     {
         if !self.sound() {
             return Answered {
@@ -180,7 +180,7 @@ impl State {
 
     // Lookat: 11 bytes, of which the direction. A slot from 2 on stores nothing.
     pub fn set_lookat(mut self, slot: u32, data: &[u8], at: usize) -> Answered
-        ensures { λ r. ⌜ outcome r tt ≡ settle nothing (lookatPlan self slot (now («data» .entry)) at) self tt ⌝ }
+        ensures { λ r. ⌜ outcome r tt ≡ carry nothing (lookatPlan self slot (now («data» .entry)) at) self tt ⌝ }
     {
         if !self.sound() {
             return Answered {
@@ -205,7 +205,7 @@ impl State {
 
     // Microcode change: slots unloaded, the matrix undefined; matrices, tables and slots' rows stay.
     pub fn switch_microcode(mut self, to: Microcode) -> Answered
-        ensures { λ r. ⌜ outcome r tt ≡ settle nothing (microcodePlan self to) self tt ⌝ }
+        ensures { λ r. ⌜ outcome r tt ≡ carry nothing (microcodePlan self to) self tt ⌝ }
     {
         if !self.sound() {
             return Answered {

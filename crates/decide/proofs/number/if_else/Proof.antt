@@ -1,4 +1,4 @@
-use Rattle.decide.specs.Pick.{pick}
+use Rattle.numbers.specs.Choice.{pick}
 use Rattle.decide.proofs.number.if_else.Statement.{statement}
 use Rattle.decide.proofs.number.if_else.Tie as tie
 

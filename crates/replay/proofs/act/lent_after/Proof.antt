@@ -1,6 +1,6 @@
 -- `replay::act::lent_after` meets its contract. Assumes nothing.
 use borrow.Author.Tests.{eq-eqb, ne-eqb}
-use Rattle.decide.specs.Pick.{pick}
+use Rattle.numbers.specs.Choice.{pick}
 use Rattle.replay.specs.Acts.{lentAfter}
 use borrow.Author.Needs.{needs}
 use Rattle.replay.proofs.act.lent_after.Statement.{statement}

@@ -1,6 +1,6 @@
 -- `replay::act::write_half` meets its contract. Assumes nothing.
 use mir.Facts.{toZ-ofZ}
-use Rattle.decide.specs.Pick.{pick}
+use Rattle.numbers.specs.Choice.{pick}
 use borrow.Author.Needs.{needs}
 use Rattle.replay.proofs.act.write_half.Statement.{statement}
 use Rattle.replay.proofs.act.write_half.Tie as tie

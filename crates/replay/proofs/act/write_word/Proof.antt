@@ -1,5 +1,5 @@
 -- `replay::act::write_word` meets its contract. Assumes nothing.
-use Rattle.decide.specs.Pick.{pick}
+use Rattle.numbers.specs.Choice.{pick}
 use borrow.Author.Needs.{needs}
 use Rattle.replay.proofs.act.write_word.Statement.{statement}
 use Rattle.replay.proofs.act.write_word.Tie as tie

@@ -1,7 +1,7 @@
 use mathlib.Core.Path.{ap}
 use mathlib.Core.List.{List}
 use lib.Ieee.{Float}
-use Rattle.stage.specs.Plan.{Outcome, settle, unless}
+use Rattle.stage.specs.Plan.{Outcome, carry, unless}
 use Rattle.stage.specs.Opening.{openingPlan}
 use borrow.Author.Needs.{needs}
 use Rattle.replay.proofs.apply.unopened.Statement.{statement}
@@ -21,7 +21,7 @@ opening-requires c κs = search needs
 
 -- src/apply.rt:52:1
 returns : tie.Need-returns
-unfolding settle openingPlan unless
+unfolding carry openingPlan unless
 returns c = ap (λ (o : Outcome (List Float × List Float)). o .state) (c .before .before .opening .ensures)
 
 pub unopened-spec : {M : Type 1} → statement M

@@ -2,7 +2,7 @@
 use mathlib.Core.Path.{refl}
 use mathlib.Core.Bool.{true, false}
 use mathlib.Core.List.{[], _∷_}
-use Rattle.decide.specs.Pick.{pick}
+use Rattle.numbers.specs.Choice.{pick}
 use Rattle.replay.specs.Ops.{shapeOf}
 use Rattle.replay.proofs.Shapes.{takes, no-op}
 use borrow.Author.Needs.{needs}

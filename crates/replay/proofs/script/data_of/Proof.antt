@@ -1,5 +1,5 @@
 -- `replay::script::data_of` meets its contract. Assumes nothing.
-use Rattle.decide.specs.Pick.{pick}
+use Rattle.numbers.specs.Choice.{pick}
 use Rattle.replay.specs.Script.{dataOf}
 use borrow.Author.Needs.{needs}
 use Rattle.replay.proofs.script.data_of.Statement.{statement}

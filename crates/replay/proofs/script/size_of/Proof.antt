@@ -1,6 +1,6 @@
 -- `replay::script::size_of` meets its contract. Assumes nothing.
 use native.Mathlib.Omega.{arith}
-use Rattle.decide.specs.Pick.{pick}
+use Rattle.numbers.specs.Choice.{pick}
 use Rattle.replay.specs.Script.{sizeOf}
 use borrow.Author.Needs.{needs}
 use Rattle.replay.proofs.script.size_of.Statement.{statement}

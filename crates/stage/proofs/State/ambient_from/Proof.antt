@@ -1,6 +1,6 @@
 use Rattle.stage.proofs.Cascade.{fails, holds, refused, passed}
 use Rattle.stage.specs.declared.Answer.the-variants.{ShortData}
-use Rattle.stage.specs.Plan.{nothing, settle}
+use Rattle.stage.specs.Plan.{nothing, carry}
 use Rattle.stage.specs.Lights.{ambientPlan}
 use borrow.Author.Tests.{leb-true}
 use borrow.Author.Needs.{needs}
@@ -18,7 +18,7 @@ colour-requires : tie.Need-colour-requires
 colour-requires c κs = leb-true _ _ (holds (c .before .reaches .ensures) (c .if1 .left))
 
 returns-2 : tie.Need-returns-2
-unfolding ambientPlan settle
+unfolding ambientPlan carry
 returns-2 c = passed nothing _ _ _ _ _ _ _ (holds (c .before .before .before .reaches .ensures) (c .before .before .if1 .left)) (rw (c .before .colour .ensures))
 
 pub ambient-from-spec : {M : Type 1} → statement M

@@ -5,7 +5,7 @@ use lib.Dec.{leb}
 use lib.ListN.{length}
 use Rattle.stage.proofs.RowEntries.{rows-held, words-of-rows, rows-hold}
 use Rattle.areas.proofs.Tables.{room-fits}
-use Rattle.stage.specs.Plan.{nothing, settle, rowTable}
+use Rattle.stage.specs.Plan.{nothing, carry, rowTable}
 use Rattle.stage.specs.Modify.{inkPlan}
 use Rattle.stage.specs.declared.Answer.the-variants.{BadState, ShortArea}
 use Rattle.stage.proofs.Cascade.{fails, holds, refused, passed, table-holds}
@@ -66,7 +66,7 @@ count-ink-requires c κs =
     )
 
 returns-4 : tie.Need-returns-4
-unfolding inkPlan settle
+unfolding inkPlan carry
 returns-4 c =
     let e3 = c .before in
     let e2 = e3 .before .before .before in

@@ -1,6 +1,6 @@
 use Rattle.stage.proofs.Cascade.{fails, holds, refused, passed}
 use Rattle.stage.specs.declared.Answer.the-variants.{BadState}
-use Rattle.stage.specs.Plan.{nothing, settle}
+use Rattle.stage.specs.Plan.{nothing, carry}
 use Rattle.stage.specs.Matrices.{geometryPlan}
 use borrow.Author.Needs.{needs}
 use Rattle.stage.proofs.State.modify_geometry_mode.Statement.{statement}
@@ -20,7 +20,7 @@ relights-requires : tie.Need-relights-requires
 relights-requires c κs = search needs
 
 returns-2 : tie.Need-returns-2
-unfolding geometryPlan settle
+unfolding geometryPlan carry
 returns-2 c = passed nothing _ _ _ _ _ _ _ (holds (c .before .before .before .before .before .sound .ensures) (c .before .before .before .before .if1 .left)) (rw (c .before .before .relights .ensures, c .before .before .before .geometry-after .ensures))
 
 pub modify-geometry-mode-spec : {M : Type 1} → statement M

@@ -1,6 +1,6 @@
 use Rattle.areas.proofs.Tables.{write-one}
 use lib.Ieee.{ofBits}
-use Rattle.stage.specs.Plan.{settle}
+use Rattle.stage.specs.Plan.{carry}
 use Rattle.stage.specs.Opening.{blank, opened, openingPlan, areas12}
 use Rattle.stage.specs.declared.Answer.the-variants.{NoRoom}
 use Rattle.stage.proofs.Cascade.{refused, passed, no-room, some-room}
@@ -56,7 +56,7 @@ same-length-2 : tie.Need-same-length-2
 same-length-2 c = search needs
 
 returns-3 : tie.Need-returns-3
-unfolding openingPlan settle opened blank ofBits
+unfolding openingPlan carry opened blank ofBits
 returns-3 c =
     passed areas12 _ _ _ _ _ _ _ (some-room 16 _ _ (c .before .before .before .before .before .before .before .before .before .before .before .before .before .before .before .before .before .before .room-of .ensures) (c .before .before .before .before .before .before .before .before .before .before .before .before .before .before .before .before .before .if1 .left))
     (passed areas12 _ _ _ _ _ _ _ (some-room 6 _ _ (c .before .before .before .before .before .before .before .before .before .before .before .before .before .before .before .before .room-of2 .ensures) (c .before .before .before .before .before .before .before .before .before .before .before .before .before .before .before .if2 .left))

@@ -1,7 +1,7 @@
 use mathlib.Core.Path.{_∙_}
 use Rattle.stage.proofs.Turning.{popped-in, in-room}
 use borrow.Author.Needs.{needs}
-use Rattle.stage.specs.Plan.{settle}
+use Rattle.stage.specs.Plan.{carry}
 use borrow.Author.Tests.{eq-eqb, ne-eqb}
 use Rattle.stage.proofs.Cascade.{picked, left, fails, holds, refused, passed, table-holds}
 use Rattle.stage.proofs.Judged.{ranges}
@@ -34,7 +34,7 @@ popped-depth-requires : tie.Need-popped-depth-requires
 popped-depth-requires c κs = search needs
 
 returns-3 : tie.Need-returns-3
-unfolding popPlan settle
+unfolding popPlan carry
 returns-3 c =
     let e2 = c .before .before .before in
     let e1 = e2 .before .before .before in

@@ -1,7 +1,7 @@
 use Prim.Native.Nat.{_+_}
 use Rattle.stage.proofs.Cascade.{fails, holds, refused, passed}
 use Rattle.stage.specs.declared.Answer.the-variants.{BadState, ShortData}
-use Rattle.stage.specs.Plan.{nothing, settle}
+use Rattle.stage.specs.Plan.{nothing, carry}
 use Rattle.stage.specs.Lights.{lookatPlan}
 use borrow.Author.Tests.{leb-true}
 use native.Mathlib.Omega.{arith}
@@ -35,7 +35,7 @@ with-axis-requires : tie.Need-with-axis-requires
 with-axis-requires c κs = search needs
 
 returns-3 : tie.Need-returns-3
-unfolding lookatPlan settle
+unfolding lookatPlan carry
 returns-3 c =
     let e1 = c .before .before .before .before in
     passed nothing _ tt _ _ _ _ _ (holds (e1 .before .sound .ensures) (e1 .if1 .left))

@@ -66,14 +66,14 @@ returns c =
     let d = c .before .before .before .before .before .before .before .before .before .before .before .before .before .before .before .args .d in
     let s = c .before .before .before .before .before .before .before .before .before .before .before .before .before .before .before .args .self in
     λ i. record {
-      matrix = (c .before .before .before .before .before .before .before .before .before .before .before .before .less-one .ensures ∙ ap (λ (n : ℕ). n - 1) (c .before .before .before .before .before .before .before .before .before .before .before .before .before .if-else .ensures ∙ counted-if (d .matrix) (d .combined) (s .counts .matrices))) i;
+      matrix = (c .before .before .before .before .before .before .before .before .before .before .before .before .less-one .ensures ∙ ap (λ (n : ℕ). n - 1) (c .before .before .before .before .before .before .before .before .before .before .before .before .before .if-else .ensures ∙ counted-if (d .newmatrix) (d .combined) (s .counts .matrices))) i;
       viewport = c .before .before .before .before .before .before .before .before .before .before .before .less-one2 .ensures i;
-      scale = (c .before .before .before .before .before .before .before .before .before .less-one3 .ensures ∙ ap (λ (n : ℕ). n - 1) (c .before .before .before .before .before .before .before .before .before .before .if-else2 .ensures ∙ counted-if (d .scale) (d .scales) (s .counts .scales))) i;
-      light = (c .before .before .before .before .before .before .if-else5 .ensures ∙ ap (λ (n : ℕ). pick (d .lit) n 0) (c .before .before .before .before .before .before .before .before .if-else3 .ensures ∙ first-of (d .light) (s .lights) (d .model) (s .counts .lights))) i;
+      scale = (c .before .before .before .before .before .before .before .before .before .less-one3 .ensures ∙ ap (λ (n : ℕ). n - 1) (c .before .before .before .before .before .before .before .before .before .before .if-else2 .ensures ∙ counted-if (d .newscale) (d .scales) (s .counts .scales))) i;
+      light = (c .before .before .before .before .before .before .if-else5 .ensures ∙ ap (λ (n : ℕ). pick (d .lit) n 0) (c .before .before .before .before .before .before .before .before .if-else3 .ensures ∙ first-of (d .newlights) (s .lights) (d .model) (s .counts .lights))) i;
       lights = c .before .before .before .before .if-else6 .ensures i;
       texgen = d .texgen;
       fog = c .before .before .if-else7 .ensures i;
-      lookat = (c .if-else8 .ensures ∙ ap (λ (n : ℕ). pick (eqb (d .texgen) 0) 0 n) (c .before .before .before .before .before .before .before .if-else4 .ensures ∙ place-of (d .look) (s .lookat) (d .model) (s .counts .lookats))) i;
+      lookat = (c .if-else8 .ensures ∙ ap (λ (n : ℕ). pick (eqb (d .texgen) 0) 0 n) (c .before .before .before .before .before .before .before .if-else4 .ensures ∙ place-of (d .newlookat) (s .lookat) (d .model) (s .counts .lookats))) i;
       zscale = at (s .viewport) 2;
       ztranslation = at (s .viewport) 5;
     }

@@ -1,6 +1,6 @@
 use Rattle.stage.proofs.Cascade.{fails, holds, refused, passed}
 use Rattle.stage.specs.declared.Answer.the-variants.{ShortData}
-use Rattle.stage.specs.Plan.{nothing, settle}
+use Rattle.stage.specs.Plan.{nothing, carry}
 use Rattle.stage.specs.Lights.{slotPlan}
 use borrow.Author.Tests.{leb-true}
 use borrow.Author.Needs.{needs}
@@ -21,7 +21,7 @@ with-light-requires : tie.Need-with-light-requires
 with-light-requires c κs = search needs
 
 returns-2 : tie.Need-returns-2
-unfolding slotPlan settle
+unfolding slotPlan carry
 returns-2 c = passed nothing _ _ _ _ _ _ _ (holds (c .before .before .before .reaches .ensures) (c .before .before .if1 .left)) (rw (c .with-light .ensures, c .before .light .ensures))
 
 pub slot-from-spec : {M : Type 1} → statement M

@@ -1,7 +1,7 @@
 use lib.Ieee.{ofBits}
 use Rattle.stage.proofs.Cascade.{fails, holds, refused, passed}
 use Rattle.stage.specs.declared.Answer.the-variants.{BadState}
-use Rattle.stage.specs.Plan.{nothing, settle}
+use Rattle.stage.specs.Plan.{nothing, carry}
 use Rattle.stage.specs.Lights.{switched, microcodePlan}
 use borrow.Author.Needs.{needs}
 use Rattle.stage.proofs.State.switch_microcode.Statement.{statement}
@@ -18,7 +18,7 @@ number-of-requires : tie.Need-number-of-requires
 number-of-requires c κs = search needs
 
 returns-2 : tie.Need-returns-2
-unfolding microcodePlan switched settle ofBits
+unfolding microcodePlan switched carry ofBits
 returns-2 c = passed nothing _ _ _ _ _ _ _ (holds (c .before .before .before .before .sound .ensures) (c .before .before .before .if1 .left)) (rw (c .before .before .number-of .ensures))
 
 pub switch-microcode-spec : {M : Type 1} → statement M

@@ -51,21 +51,21 @@ returns c =
     let f = rw (toZ-ofZ {w = w16} {z = s .fogmul} (record { sfits = c .before .before .before .struct-told .given .1 .1 .1 .0 .1 }), toZ-ofZ {w = w16} {z = s .fogoff} (record { sfits = c .before .before .struct-told2 .given .1 .1 .1 .1 .0 .1 })) at (c .before .put-fog-if .ensures) in
     record {
       counts = λ i. record {
-        matrices = put-count (d .matrix) _ _ _ _ _ _ a i;
+        matrices = put-count (d .newmatrix) _ _ _ _ _ _ a i;
         viewports = s .counts .viewports;
-        scales = put-count (d .scale) _ _ _ _ _ _ b i;
-        lights = put-count (d .light) _ _ _ _ _ _ l i;
-        lookats = put-count (d .look) _ _ _ _ _ _ o i;
-        fogs = put-count (d .fog) _ _ _ _ _ _ f i;
+        scales = put-count (d .newscale) _ _ _ _ _ _ b i;
+        lights = put-count (d .newlights) _ _ _ _ _ _ l i;
+        lookats = put-count (d .newlookat) _ _ _ _ _ _ o i;
+        fogs = put-count (d .newfog) _ _ _ _ _ _ f i;
         rows = s .counts .rows;
         indices = s .counts .indices;
         runs = s .counts .runs;
       };
-      matrices = put-area (d .matrix) _ _ _ _ _ _ a;
-      scales = put-area (d .scale) _ _ _ _ _ _ b;
-      lights = put-area (d .light) _ _ _ _ _ _ l;
-      lookats = put-area (d .look) _ _ _ _ _ _ o;
-      fogs = put-area (d .fog) _ _ _ _ _ _ f;
+      matrices = put-area (d .newmatrix) _ _ _ _ _ _ a;
+      scales = put-area (d .newscale) _ _ _ _ _ _ b;
+      lights = put-area (d .newlights) _ _ _ _ _ _ l;
+      lookats = put-area (d .newlookat) _ _ _ _ _ _ o;
+      fogs = put-area (d .newfog) _ _ _ _ _ _ f;
     }
 
 pub tables-written-spec : {M : Type 1} → statement M
