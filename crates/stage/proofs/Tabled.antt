@@ -10,7 +10,7 @@ use Rattle.stage.specs.declared.State.{State}
 use Rattle.stage.specs.declared.Counts.{Counts}
 use Rattle.stage.specs.declared.Answer.{Answer}
 use Rattle.stage.specs.Answers.{number, values}
-use Rattle.stage.specs.Plan.{Edits, Plan, refuse, refuse, unless, judge, Outcome, outcome, carry}
+use Rattle.stage.specs.Plan.{Edits, Plan, refuse, unless, judge, Outcome, outcome, carry}
 
 -- each table has a number above 0
 abbrev pub Numbered : List Lent → Type 0
