@@ -7,10 +7,11 @@ use lib.ListN.{take, drop, length}
 use lib.IntN.{ℤ, pos, negsuc}
 use lib.Dec.{eqb}
 use lib.Seq.{sets}
+use Rattle.areas.specs.Widths.{most}
 
--- how many entries of w numbers an area of n numbers has room for: none where w is 0, and at most 1,048,576
+-- how many entries of w numbers an area of n numbers has room for: none where w is 0, and at most `most`
 abbrev pub room : ℕ → ℕ → ℕ
-room w n = min (n / w) 1048576
+room w n = min (n / w) most
 
 module _ {A : Type 0} where
   -- the n numbers of l from place at on, or as many as there are

@@ -7,7 +7,8 @@ use lib.ListN.{length}
 use lib.IntN.{ℤ}
 use lib.Dec.{leb}
 use lib.Ieee.{Float, eq}
-use Rattle.areas.specs.Area.{entries, room, write, matches}
+use Rattle.areas.specs.Area.{entries, room, matches}
+pub use Rattle.areas.specs.Table.{Table, table, Edit, keep, grow, patch, more, counted, after}
 use Rattle.decide.specs.Append.{final}
 use Rattle.decide.specs.Judge.{Lent, fits}
 unfoldable pub use Rattle.numbers.specs.Choice.{pick, unless}
@@ -18,21 +19,6 @@ use Rattle.stage.specs.Answers.{number, values}
 use Rattle.stage.specs.With.{withCounts}
 
 -- ---- tables
-
--- a lent table: its entries in use, and how many it has room for
-pub record Table (E : Type 0) : Type 0 where
-  pub used : List E
-  pub room : ℕ
-
--- the table of n entries in use, of w numbers each, in the area l
-abbrev pub table : {A : Type 0} → ℕ → ℕ → List A → Table (List A)
-table w n l = record { used = entries w n l; room = room w (length l) }
-
--- what a command does to a table: nothing, entries appended, or entry i replaced
-pub data Edit (E : Type 0) : Type 0 where
-  keep : Edit E
-  grow : List E → Edit E
-  patch : ℕ → E → Edit E
 
 -- an entry of table 7: 9 f32 and 10 u32
 pub record Row : Type 0 where
@@ -86,12 +72,6 @@ unfoldable pub unless : Bool → ℕ → List ℕ → Plan → Plan
 unless true (refuse n vs) p = p
 unless false (refuse n vs) p = refuse n vs
 
--- how many entries an edit appends
-abbrev pub more : {E : Type 0} → Edit E → ℕ
-more keep = 0
-more (grow es) = length es
-more (patch i e) = 0
-
 -- a lent table as refusals 8 and 9 judge it, under its number
 abbrev pub lent : {E : Type 0} → ℕ → Table E → Edit E → Lent
 lent k t e = record { number = k; used = length (t .used); more = more e; room = t .room }
@@ -115,12 +95,6 @@ needs n at bytes p = unless (leb (at + n) (length bytes)) (refuse 7 (n ∷ [])) 
 
 -- ---- outcomes
 
--- the count of a table after an edit
-abbrev pub counted : {E : Type 0} → Edit E → ℕ → ℕ
-counted keep n = n
-counted (grow es) n = n + length es
-counted (patch i e) n = n
-
 -- all counts after a command's edits: they are the lengths of what is in use
 abbrev pub advance : Edits → Counts → Counts
 advance e c =
@@ -135,12 +109,6 @@ advance e c =
       indices = counted (e .indices) (c .indices);
       runs = counted (e .runs) (c .runs);
     }
-
--- an area of which n entries of w numbers are in use, after an edit; a number that no rule names stays
-abbrev pub after : {A : Type 0} → ℕ → ℕ → Edit (List A) → List A → List A
-after w n keep l = l
-after w n (grow es) l = write w n es l
-after w n (patch i e) l = write w i (e ∷ []) l
 
 -- what a command hands back, the answer by number and values, and what its areas hold then
 pub record Outcome (A : Type 0) : Type 0 where
