@@ -67,11 +67,6 @@ pub data Plan : Type 0 where
   refuse : ℕ → List ℕ → Plan
   does : List ℕ → State → Edits → Plan
 
--- the refusal where the test fails, else what comes after
-unfoldable pub unless : Bool → ℕ → List ℕ → Plan → Plan
-unless true (refuse n vs) p = p
-unless false (refuse n vs) p = refuse n vs
-
 -- a lent table as refusals 8 and 9 judge it, under its number
 abbrev pub lent : {E : Type 0} → ℕ → Table E → Edit E → Lent
 lent k t e = record { number = k; used = length (t .used); more = more e; room = t .room }
