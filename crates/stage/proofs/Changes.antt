@@ -30,7 +30,8 @@ use Rattle.stage.specs.Answers.{number, values}
 use Rattle.stage.specs.Plan.{Table, Edit, keep, grow, patch, Row, Plan, refuse, does, unless, pick, more, table, outcome, carry, rowTable}
 use Rattle.stage.specs.Sound.{sound}
 use Rattle.stage.specs.With.{withCounts}
-use Rattle.stage.specs.Modify.{areas37, edits37, modifyAnswer, slotOf, tablesOf, asking, scaleEdit, rowEdit, rowChange, changed, countsTo, changePlan}
+use Rattle.stage.specs.Modify.{areas37, edits37, asking, scaleEdit, rowEdit, rowChange, moved, changed, changePlan}
+use Rattle.stage.specs.Steps.{modifyAnswer, slotOf, tablesOf, countsTo}
 use Rattle.stage.proofs.RowEntries.{length-rows, row-at, rows-in}
 
 -- one entry appended, or none, as a count has it
@@ -95,7 +96,7 @@ written slots s l f w slot k c m e =
 module _ (slots : ℕ) (s : State) (l f : List Float) (w : List ℕ) (slot attribute : ℕ) where
   -- THE PLAN OF A MODIFY IS WHAT THE VERDICT STANDS FOR
   pub verdict-plan : (k : Asked) → plan slots s l f w slot attribute k ≡ planned s (rowTable (s .counts .rows) f w) slot attribute (verdict slots s l f w slot k)
-  unfolding asking changePlan judged roomy comesTo
+  unfolding asking changePlan judged roomy comesTo moved
   verdict-plan Unknown = refl
   verdict-plan (Known c) =
       let n7 = s .counts .rows in

@@ -15,7 +15,8 @@ use Rattle.vertex.specs.declared.Slot.{Slot}
 use Rattle.vertex.specs.Vertices.{floatsWide, wordsWide, floatsOf, wordsOf, slotOf, verticesAt}
 use Rattle.vertex.proofs.Believe.{floats-size, words-size, wide-map, length-vertices, vertices-snoc}
 use Rattle.stage.specs.declared.State.{State}
-use Rattle.stage.specs.Rows.{fillSlot, fillSlots, RowsLaid}
+use Rattle.stage.specs.Rows.{fillSlot, fillSlots}
+use Rattle.stage.specs.Steps.{RowsLaid}
 
 -- one more vertex fills one more slot
 pub fill-snoc : (s : State) (m : List (List Float)) (e : Shared) (k r : ℕ) (vs : List Vertex) (v : Vertex)

@@ -4,11 +4,11 @@ use Prim.Native.Nat.{ℕ, _≤_}
 use native.Mathlib.Omega.{arith}
 use mathlib.Core.Bool.{Bool, true, false}
 use mathlib.Core.List.{List, [], _∷_}
+use lib.IntN.{ℤ}
 use lib.Ieee.{Float}
 use borrow.Author.Tests.{ne-eqb}
 use Rattle.layout.specs.declared.records.Light.{Light}
 use Rattle.layout.specs.Layout.{lightAt}
-use Rattle.decide.specs.Lights.{lightNumber}
 use Rattle.decide.proofs.Slots.{slot-above}
 use Rattle.stage.specs.declared.State.{State}
 use Rattle.stage.specs.declared.Lights.{Lights}
@@ -16,13 +16,17 @@ use Rattle.stage.specs.declared.Lookat.{Lookat}
 use Rattle.stage.specs.declared.settings.Microcode.{Microcode}
 use Rattle.stage.specs.Plan.{Plan, refuse, does, unless, needs, nothing, carry, untouched}
 use Rattle.stage.specs.Sound.{stateSound, sound}
-use Rattle.stage.specs.Lights.{lightIn, axisIn, lightsTo, lookatTo, slotPlan, lightPlan, lookatPlan, switched, microcodePlan, remains}
+use Rattle.stage.specs.Lights.{lightIn, axisIn, lightsTo, lookatTo, slotPlan, lightPlan, lookatPlan, switched, microcodePlan}
+use Rattle.stage.specs.With.{Parts, partsOf}
 use Rattle.stage.proofs.Cascade.{left}
 use Rattle.stage.proofs.Judged.{Ranges, ranges}
 
--- case 6 of document 01: 23, 48, 191 and 500 bytes of lights
-pub case-6 : lightNumber 23 ∷ lightNumber 48 ∷ lightNumber 191 ∷ lightNumber 500 ∷ [] ≡ 0 ∷ 2 ∷ 7 ∷ 7 ∷ []
-case-6 = refl
+-- what a microcode change leaves as it was: slots' rows, tables, matrices and settings, so that a slot loaded before still draws
+abbrev pub Remains : Type 0
+Remains = record { row : List ℕ; ever : List Bool; depth : ℕ; stack : List Float; projection : List Float; combined : List Float; geometry : ℕ; fogmul : ℤ; fogoff : ℤ; parts : Parts }
+
+abbrev pub remains : State → Remains
+remains s = record { row = s .row; ever = s .ever; depth = s .depth; stack = s .stack; projection = s .projection; combined = s .combined; geometry = s .geometry; fogmul = s .fogmul; fogoff = s .fogoff; parts = partsOf s }
 
 -- two plans behind one test are the same where they are the same once it holds
 unless-same : (b : Bool) (n : ℕ) (vs : List ℕ) (p q : Plan) → (b ≡ true → p ≡ q) → unless b (refuse n vs) p ≡ unless b (refuse n vs) q

@@ -33,10 +33,11 @@ use Rattle.stage.specs.declared.load.Settled.{Settled}
 use Rattle.stage.specs.declared.load.More.{More}
 use Rattle.stage.specs.declared.load.Rooms.{Rooms}
 use Rattle.stage.specs.Plan.{Edits, Plan, judge, more, pick, rowsOf, untouched, advance, Outcome, outcome, carry}
-use Rattle.stage.specs.Load.{settled, settledState, sharedBy, loadEdits, loadDone, loadPlan, onlyIf, vertexRow, LoadAreas, loadTables, loadLent, sixLent, roomsOf, moreBy, noMore, earlyAnswer, Ranged, TablesAre, areasLoad, fogPair}
+use Rattle.stage.specs.Load.{settled, settledState, sharedBy, loadEdits, loadDone, loadPlan, onlyIf, vertexRow, LoadAreas, loadTables, loadLent, areasLoad, fogPair}
 use Rattle.stage.specs.Sound.{stateSound}
-use Rattle.stage.specs.Rows.{RowsFit, RowsLaid, fillSlots}
+use Rattle.stage.specs.Rows.{fillSlots}
 use Rattle.stage.specs.With.{withCounts}
+use Rattle.stage.specs.Steps.{sixLent, roomsOf, moreBy, noMore, earlyAnswer, Ranged, TablesAre, RowsFit, RowsLaid}
 use Rattle.stage.proofs.Judged.{Ranges, ranges, and-right}
 use Rattle.stage.proofs.Tabled.{Numbered, fits-first, table-refused, table-passed}
 use Rattle.stage.proofs.Cascade.{refused, passed}

@@ -26,7 +26,8 @@ use Rattle.stage.specs.declared.Answer.the-variants.{Done}
 use Rattle.stage.specs.Plan.{unless, table, Outcome, outcome, carry, rowTable}
 use Rattle.stage.specs.Sound.{stateSound}
 use Rattle.stage.specs.With.{withCounts}
-use Rattle.stage.specs.Modify.{areas37, changed, countsTo, modifyPlan}
+use Rattle.stage.specs.Modify.{areas37, changed, modifyPlan}
+use Rattle.stage.specs.Steps.{countsTo}
 use Rattle.stage.proofs.Changes.{verdict, plan, refused-by, written, accepted}
 
 -- the three areas: scales, and the two of the rows

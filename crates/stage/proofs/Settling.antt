@@ -19,7 +19,8 @@ use Rattle.stage.specs.declared.Lights.{Lights}
 use Rattle.stage.specs.declared.Lookat.{Lookat}
 use Rattle.stage.specs.Plan.{pick, counted, after}
 use Rattle.stage.specs.Matrices.{modelTop}
-use Rattle.stage.specs.Load.{combinedNow, fogPair, settled, foldedLights, foldedLookat, onlyIf}
+use Rattle.stage.specs.Load.{combinedNow, fogPair, settled, onlyIf}
+use Rattle.stage.specs.With.{foldedLights, foldedLookat}
 
 module _ (s : State) (matrices scales : List (List Float)) (fogs : List (List ℤ)) (m e model : List Float) (last same light look lit? foggy : Bool) (texgen p n : ℕ) where
   pub settled-is : m ≡ combinedNow s → e ≡ scaleEntry (s .texture .sc) (s .texture .tc) → model ≡ laid (modelTop s) → lit? ≡ lit f3dex2 (s .geometry)

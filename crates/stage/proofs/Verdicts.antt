@@ -34,7 +34,8 @@ use Rattle.stage.specs.declared.Answer.{Answer}
 use Rattle.stage.specs.Sound.{stateSound}
 use Rattle.stage.specs.Plan.{keep, grow, Plan, refuse, does, unless, pick, more, lent, judge, table, counted, after, untouched, outcome, carry}
 use Rattle.stage.specs.With.{withDrawn, withCounts}
-use Rattle.stage.specs.Draw.{edits89, areas89, drawAnswer, rowOf, placed, mark, triangle, runEdit, drawPlan}
+use Rattle.stage.specs.Draw.{edits89, areas89, rowOf, placed, mark, triangle, runEdit, drawPlan}
+use Rattle.stage.specs.Steps.{drawAnswer}
 
 -- ---- the plan by the verdict
 

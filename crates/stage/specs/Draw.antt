@@ -8,18 +8,14 @@ use lib.Dec.{eqb, leb, ltb}
 use lib.IntN.{pos}
 use lib.Ieee.{nan, le, binary64}
 use Rattle.decide.specs.Append.{final}
-use Rattle.decide.specs.Family.{Family}
+use Rattle.decide.specs.Family.{Family, f3dex2}
 use Rattle.numbers.specs.Ratio.{ofRatio}
 use Rattle.triangle.specs.Run.{settings, runOf, longer, closed, sameRun}
 use Rattle.triangle.specs.Slot.{bit, held, corners, both, culls, swaps}
-use Rattle.triangle.specs.declared.verdict.Verdict.{Verdict}
-use Rattle.triangle.specs.declared.verdict.Verdict.the-variants.{Unsound, Nothing, Never, Short, Full, Record}
 use Rattle.stage.specs.declared.State.{State}
 use Rattle.stage.specs.declared.Counts.{Counts}
-use Rattle.stage.specs.declared.Answer.{Answer}
-use Rattle.stage.specs.declared.Answer.the-variants.{Done, NeverLoaded, ShortArea, NoRoom, BadState}
-use Rattle.stage.specs.Plan.{Table, Edit, keep, grow, patch, Edits, Plan, refuse, does, unless, pick, lent, judge, after, untouched}
-use Rattle.stage.specs.Sound.{sound}
+use Rattle.stage.specs.Plan.{Table, Edit, keep, grow, patch, Edits, Plan, refuse, does, unless, pick, lent, judge, untouched, indexArea, runArea, tableIn, afterIn, Outcome, carry}
+use Rattle.stage.specs.Sound.{sound, limit}
 use Rattle.stage.specs.With.{withDrawn}
 
 -- ---- cull test
@@ -80,12 +76,11 @@ depthPlan slots s slot threshold =
 
 -- edits of tables 8 and 9 alone
 abbrev pub edits89 : Edit (List ℕ) → Edit (List ℕ) → Edits
-edits89 e r =
-    record { matrices = keep; viewports = keep; scales = keep; lights = keep; lookats = keep; fogs = keep; rows = keep; indices = e; runs = r }
+edits89 e r = record { matrices = keep; viewports = keep; scales = keep; lights = keep; lookats = keep; fogs = keep; rows = keep; drawing = record { indices = e; runs = r } }
 
 -- the areas of a command that is lent tables 8 and 9
 abbrev pub areas89 : Counts → Edits → List ℕ × List ℕ → List ℕ × List ℕ
-areas89 c e l = (after 1 (c .indices) (e .indices) (l .0), after 8 (c .runs) (e .runs) (l .1))
+areas89 c e l = (afterIn indexArea c e (l .0), afterIn runArea c e (l .1))
 
 -- 6 with the first of some slots that was never loaded since opening
 abbrev pub judgeEver : ℕ → State → List ℕ → Plan → Plan
@@ -128,11 +123,6 @@ drawPlan f slots s t u a b c asked =
     (judge 9 (lent 8 t e ∷ lent 9 u r ∷ [])
     (does [] (withDrawn s (mark (s .drawn) (a ∷ b ∷ c ∷ []))) (edits89 e r))))))))
 
--- the answer that a verdict stands for
-abbrev pub drawAnswer : Verdict → Answer
-drawAnswer Unsound = BadState
-drawAnswer Nothing = Done
-drawAnswer (Never slot) = NeverLoaded slot
-drawAnswer (Short table) = ShortArea table
-drawAnswer (Full table) = NoRoom table
-drawAnswer (Record more start count) = Done
+-- what a draw comes to, for any state and areas
+abbrev pub drawMeans : State → ℕ → ℕ → ℕ → List ℕ → List ℕ × List ℕ → Outcome (List ℕ × List ℕ)
+drawMeans s a b c asked l = carry areas89 (drawPlan f3dex2 (limit s) s (tableIn indexArea (s .counts) (l .0)) (tableIn runArea (s .counts) (l .1)) a b c asked) s l

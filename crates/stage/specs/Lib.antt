@@ -8,4 +8,5 @@ pub mod Opening
 pub mod Plan
 pub mod Rows
 pub mod Sound
+pub mod Steps
 pub mod With

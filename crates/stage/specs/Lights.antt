@@ -16,7 +16,7 @@ use Rattle.stage.specs.declared.settings.Microcode.the-variants.{F3dex2,
 use Rattle.stage.specs.Opening.{unloaded}
 use Rattle.stage.specs.Plan.{Plan, does, pick, needs, untouched}
 use Rattle.stage.specs.Sound.{sound}
-use Rattle.stage.specs.With.{Parts, partsOf, withFog, withTexture, withLights, withLookat, withMicrocode, undefined, withSlots, withNumber, withAmbient, withColumns, withAxes, marked}
+use Rattle.stage.specs.With.{withFog, withTexture, withLights, withLookat, withMicrocode, undefined, withSlots, withNumber, withAmbient, withColumns, withAxes, marked}
 
 -- Texture: tile, level, on, sc and tc as given
 unfoldable pub texturePlan : State → ℕ → ℕ → Bool → ℕ → ℕ → Plan
@@ -78,32 +78,3 @@ switched s m = withSlots (undefined (withMicrocode s (microcodeNumber m))) (unlo
 -- Microcode change
 unfoldable pub microcodePlan : State → Microcode → Plan
 microcodePlan s m = sound s (does [] (switched s m) untouched)
-
--- what a microcode change leaves as it was: slots' rows, tables, matrices and settings, so that a slot loaded before still draws
-pub record Remains : Type 0 where
-  pub row : List ℕ
-  pub ever : List Bool
-  pub depth : ℕ
-  pub stack : List Float
-  pub projection : List Float
-  pub combined : List Float
-  pub geometry : ℕ
-  pub fogmul : ℤ
-  pub fogoff : ℤ
-  pub parts : Parts
-
--- what of a state remains so
-abbrev pub remains : State → Remains
-remains s =
-    record {
-      row = s .row;
-      ever = s .ever;
-      depth = s .depth;
-      stack = s .stack;
-      projection = s .projection;
-      combined = s .combined;
-      geometry = s .geometry;
-      fogmul = s .fogmul;
-      fogoff = s .fogoff;
-      parts = partsOf s;
-    }

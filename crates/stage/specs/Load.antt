@@ -1,18 +1,17 @@
 -- The meaning of load (port order 5): what it settles first, then its rows. Definitions only.
-use Prim.Native.Nat.{ℕ, _+_, _-_, _*_, _≤_, min}
-use mathlib.Core.Bool.{Bool, true, false, not, _&&_}
-use mathlib.Core.Path.{_≡_}
+use Prim.Native.Nat.{ℕ, _+_, _-_, _*_}
+use mathlib.Core.Bool.{Bool, not, _&&_}
 use mathlib.Core.List.{List, [], _∷_, map}
 use lib.ListN.{length}
 use lib.IntN.{ℤ}
 use lib.Dec.{leb, ltb, eqb}
 use lib.Ieee.{Float, eq}
-use Rattle.areas.specs.Area.{matches, room}
-use Rattle.matrix.specs.Math.{at, rows, laid, times}
+use Rattle.areas.specs.Area.{matches}
+use Rattle.matrix.specs.Math.{at, rows, laid}
 use Rattle.layout.specs.declared.records.Vertex.{Vertex}
 use Rattle.decide.specs.Append.{final}
-use Rattle.decide.specs.Judge.{Lent, firstShort}
-use Rattle.decide.specs.Family.{Family, flag, lit, texgenMode}
+use Rattle.decide.specs.Judge.{Lent}
+use Rattle.decide.specs.Family.{Family, f3dex2, flag, lit, texgenMode}
 use Rattle.fold.specs.Decision.{refold}
 use Rattle.fold.specs.Fog.{find}
 use Rattle.fold.specs.Lights.{lightEntries}
@@ -21,19 +20,15 @@ use Rattle.fold.specs.Scales.{scaleEntry, sameScale}
 use Rattle.vertex.specs.declared.Shared.{Shared}
 use Rattle.vertex.specs.Vertices.{floatsOf, wordsOf, verticesAt}
 use Rattle.stage.specs.declared.State.{State}
-use Rattle.stage.specs.declared.Answer.{Answer}
-use Rattle.stage.specs.declared.Answer.the-variants.{Done, BadState, BadLoad, ShortData, ShortArea}
 use Rattle.stage.specs.declared.Counts.{Counts}
 use Rattle.stage.specs.declared.Lights.{Lights}
 use Rattle.stage.specs.declared.Lookat.{Lookat}
 use Rattle.stage.specs.declared.load.Settled.{Settled}
-use Rattle.stage.specs.declared.load.More.{More}
-use Rattle.stage.specs.declared.load.Rooms.{Rooms}
-use Rattle.stage.specs.Plan.{Table, Edit, keep, grow, Row, Edits, Plan, refuse, unless, pick, does, lent, judge, needs, counted, after, untouched, table, rowTable, rowFloats, rowWords, only}
-use Rattle.stage.specs.Sound.{stateSound, sound}
-use Rattle.stage.specs.Matrices.{modelTop}
+use Rattle.stage.specs.Plan.{Table, Edit, keep, grow, Row, Edits, Plan, refuse, unless, pick, does, lent, judge, needs, counted, untouched, undrawn, rowTable, matrixArea, scaleArea, lightArea, lookatArea, fogArea, floatArea, wordArea, tableIn, afterIn, Outcome, carry}
+use Rattle.stage.specs.Sound.{sound, limit}
+use Rattle.stage.specs.Matrices.{modelTop, product}
 use Rattle.stage.specs.Rows.{fillSlots}
-use Rattle.stage.specs.With.{withCombined, withLights, withLookat}
+use Rattle.stage.specs.With.{withCombined, withLights, withLookat, foldedLights, foldedLookat}
 
 -- the tables lent to a load
 pub record LoadTables : Type 0 where
@@ -48,7 +43,7 @@ pub record LoadTables : Type 0 where
 
 -- the combined matrix in force: an undefined one is recomputed
 abbrev pub combinedNow : State → List Float
-combinedNow s = pick (s .defined) (s .combined) (laid (times (modelTop s) (rows (s .projection) 0)))
+combinedNow s = pick (s .defined) (s .combined) (product s)
 
 abbrev pub fogPair : State → List ℤ
 fogPair s = s .fogmul ∷ s .fogoff ∷ []
@@ -79,23 +74,7 @@ settled f s matrices scales fogs =
 abbrev pub onlyIf : {E : Type 0} → Bool → List E → Edit E
 onlyIf b es = pick b (grow es) keep
 
--- the lights, and the lookat axes, after they are folded with the model top m, as entry n
-abbrev pub foldedLights : Lights → List Float → ℕ → Lights
-foldedLights l m n =
-    record {
-      number = l .number;
-      directions = l .directions;
-      colours = l .colours;
-      ambient = l .ambient;
-      changed = false;
-      folded = true;
-      top = m;
-      first = n;
-    }
-
-abbrev pub foldedLookat : Lookat → List Float → ℕ → Lookat
-foldedLookat l m n = record { axes = l .axes; changed = false; folded = true; top = m; place = n }
-
+-- the lights, and the lookat axes, then: folded with the model top, as the next entry, or as they were
 abbrev pub lightsThen : Settled → State → Lights
 lightsThen d s = pick (d .newlights) (foldedLights (s .lights) (d .model) (s .counts .lights)) (s .lights)
 
@@ -124,7 +103,7 @@ sharedBy d s =
 
 -- ---- the command
 
--- a row: its 9 f32 and 10 u32
+-- the row of a vertex
 abbrev pub vertexRow : Shared → Vertex → Row
 vertexRow e v = record { floats = floatsOf v; words = wordsOf e v }
 
@@ -139,8 +118,7 @@ loadEdits d s vs =
       lookats = onlyIf (d .newlookat) (lookatEntry (rows (d .model) 0) (s .lookat .axes) ∷ []);
       fogs = onlyIf (d .newfog) (fogPair s ∷ []);
       rows = grow (map (vertexRow (sharedBy d s)) vs);
-      indices = keep;
-      runs = keep;
+      drawing = undrawn;
     }
 
 -- the tables as 8 and 9 judge them
@@ -165,40 +143,6 @@ loadPlan f slots s t first count bytes at =
 
 -- ---- its areas
 
--- the counts of the tables that are settled before the rows
-abbrev pub advanceTables : Edits → Counts → Counts
-advanceTables e c =
-    record {
-      matrices = counted (e .matrices) (c .matrices);
-      viewports = c .viewports;
-      scales = counted (e .scales) (c .scales);
-      lights = counted (e .lights) (c .lights);
-      lookats = counted (e .lookats) (c .lookats);
-      fogs = counted (e .fogs) (c .fogs);
-      rows = c .rows;
-      indices = c .indices;
-      runs = c .runs;
-    }
-
--- what has been judged before a load settles anything
-pub record Ranged (s : State) (d : Settled) : Type 0 where
-  pub matrices : s .counts .matrices ≤ 1048576
-  pub scales : s .counts .scales ≤ 1048576
-  pub lights : s .counts .lights ≤ 1048576
-  pub lookats : s .counts .lookats ≤ 1048576
-  pub fogs : s .counts .fogs ≤ 1048576
-  pub number : s .lights .number ≤ 7
-  pub place : d .fogat ≤ 1048576
-
--- the tables before the rows, settled: counts and areas
-pub record TablesAre (d : Settled) (s : State) (e : Edits) (c : Counts) (a b l o : List Float) (f : List ℤ) (a′ b′ l′ o′ : List Float) (f′ : List ℤ) : Type 0 where
-  pub counts : c ≡ advanceTables e (s .counts)
-  pub matrices : a′ ≡ after 16 (s .counts .matrices) (e .matrices) a
-  pub scales : b′ ≡ after 4 (s .counts .scales) (e .scales) b
-  pub lights : l′ ≡ after 6 (s .counts .lights) (e .lights) l
-  pub lookats : o′ ≡ after 6 (s .counts .lookats) (e .lookats) o
-  pub fogs : f′ ≡ after 2 (s .counts .fogs) (e .fogs) f
-
 pub record LoadAreas : Type 0 where
   pub matrices : List Float
   pub scales : List Float
@@ -212,13 +156,13 @@ pub record LoadAreas : Type 0 where
 abbrev pub areasLoad : Counts → Edits → LoadAreas → LoadAreas
 areasLoad c e l =
     record {
-      matrices = after 16 (c .matrices) (e .matrices) (l .matrices);
-      scales = after 4 (c .scales) (e .scales) (l .scales);
-      lights = after 6 (c .lights) (e .lights) (l .lights);
-      lookats = after 6 (c .lookats) (e .lookats) (l .lookats);
-      fogs = after 2 (c .fogs) (e .fogs) (l .fogs);
-      floats = after 9 (c .rows) (only rowFloats (e .rows)) (l .floats);
-      words = after 10 (c .rows) (only rowWords (e .rows)) (l .words);
+      matrices = afterIn matrixArea c e (l .matrices);
+      scales = afterIn scaleArea c e (l .scales);
+      lights = afterIn lightArea c e (l .lights);
+      lookats = afterIn lookatArea c e (l .lookats);
+      fogs = afterIn fogArea c e (l .fogs);
+      floats = afterIn floatArea c e (l .floats);
+      words = afterIn wordArea c e (l .words);
     }
 
 -- the areas, and the tables in them for the counts c
@@ -228,46 +172,14 @@ loadAreas a b l o f x w = record { matrices = a; scales = b; lights = l; lookats
 abbrev pub loadTables : Counts → LoadAreas → LoadTables
 loadTables c l =
     record {
-      matrices = table 16 (c .matrices) (l .matrices);
-      scales = table 4 (c .scales) (l .scales);
-      lights = table 6 (c .lights) (l .lights);
-      lookats = table 6 (c .lookats) (l .lookats);
-      fogs = table 2 (c .fogs) (l .fogs);
+      matrices = tableIn matrixArea c (l .matrices);
+      scales = tableIn scaleArea c (l .scales);
+      lights = tableIn lightArea c (l .lights);
+      lookats = tableIn lookatArea c (l .lookats);
+      fogs = tableIn fogArea c (l .fogs);
       rows = rowTable (c .rows) (l .floats) (l .words);
     }
 
--- the six tables of a load as the judge sees them, by counts, entries to be appended and rooms
-abbrev pub sixLent : Counts → More → Rooms → List Lent
-sixLent c m r =
-    record { number = 1; used = c .matrices; more = m .matrices; room = r .matrices }
-    ∷ record { number = 3; used = c .scales; more = m .scales; room = r .scales }
-    ∷ record { number = 4; used = c .lights; more = m .lights; room = r .lights }
-    ∷ record { number = 5; used = c .lookats; more = m .lookats; room = r .lookats }
-    ∷ record { number = 6; used = c .fogs; more = m .fogs; room = r .fogs }
-    ∷ record { number = 7; used = c .rows; more = m .rows; room = r .rows }
-    ∷ []
-
--- the rooms of a load's areas; table 7's is the lesser of its two
-unfoldable pub roomsOf : ℕ → ℕ → ℕ → ℕ → ℕ → ℕ → ℕ → Rooms
-roomsOf a b l o f x w =
-    record { matrices = room 16 a; scales = room 4 b; lights = room 6 l; lookats = room 6 o; fogs = room 2 f; rows = min (room 9 x) (room 10 w) }
-
--- how many entries a load appends to each table
-unfoldable pub moreBy : Settled → State → ℕ → More
-moreBy d s count =
-    record { matrices = pick (d .newmatrix) 1 0; scales = pick (d .newscale) 1 0; lights = pick (d .newlights) (s .lights .number + 1) 0; lookats = pick (d .newlookat) 1 0; fogs = pick (d .newfog) 1 0; rows = count }
-
-abbrev pub noMore : More
-noMore = record { matrices = 0; scales = 0; lights = 0; lookats = 0; fogs = 0; rows = 0 }
-
--- the answer of a load that is due before anything is settled, by the rooms r of its areas and the length of its data: Done where none is
-unfoldable pub earlyAnswer : State → ℕ → ℕ → ℕ → ℕ → Rooms → Answer
-earlyAnswer s first count len at r =
-    let short = firstShort (sixLent (s .counts) noMore r) in
-    pick (stateSound s)
-    (pick (leb count 256 && leb (first + count) 256)
-    (pick (leb (at + 16 * count) len)
-    (pick (eqb short 0) Done (ShortArea short))
-    (ShortData (16 * count)))
-    (BadLoad count first))
-    BadState
+-- what a load comes to, for any state and areas
+abbrev pub loadMeans : State → ℕ → ℕ → List ℕ → ℕ → LoadAreas → Outcome LoadAreas
+loadMeans s first count bytes at l = carry areasLoad (loadPlan f3dex2 (limit s) s (loadTables (s .counts) l) first count bytes at) s l

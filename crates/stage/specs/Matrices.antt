@@ -5,52 +5,55 @@ use mathlib.Core.List.{List, [], _∷_, _++_}
 use lib.Dec.{eqb}
 use lib.Ieee.{Float}
 use Rattle.areas.specs.Area.{put}
+use Rattle.areas.specs.Widths.{matrixWidth}
 use Rattle.matrix.specs.Math.{rows, laid, times}
 use Rattle.layout.specs.Layout.{matrixAt, viewportAt}
 use Rattle.stage.specs.declared.State.{State}
 use Rattle.stage.specs.declared.Counts.{Counts}
 use Rattle.decide.specs.Family.{Family, flag}
 use Rattle.decide.specs.Stack.{made, pushed, popped, geometryAfter, relit}
-use Rattle.stage.specs.Plan.{Table, Edit, keep, Edits, Plan, does, pick, lent, judge, appending, needs, after, untouched}
+use Rattle.stage.specs.Plan.{Table, Edit, keep, Edits, Plan, does, pick, lent, judge, appending, needs, untouched, undrawn, matrixArea, viewportArea, afterIn}
 use Rattle.stage.specs.Sound.{sound}
 use Rattle.stage.specs.With.{withGeometry, withModel, withProjection, withCombined, withViewport, withLights, marked}
 
 -- edits of table 1 alone, and of table 2 alone
 abbrev pub edits1 : Edit (List Float) → Edits
-edits1 e =
-    record { matrices = e; viewports = keep; scales = keep; lights = keep; lookats = keep; fogs = keep; rows = keep; indices = keep; runs = keep }
+edits1 e = record { matrices = e; viewports = keep; scales = keep; lights = keep; lookats = keep; fogs = keep; rows = keep; drawing = undrawn }
 
 abbrev pub edits2 : Edit (List Float) → Edits
-edits2 e =
-    record { matrices = keep; viewports = e; scales = keep; lights = keep; lookats = keep; fogs = keep; rows = keep; indices = keep; runs = keep }
+edits2 e = record { matrices = keep; viewports = e; scales = keep; lights = keep; lookats = keep; fogs = keep; rows = keep; drawing = undrawn }
 
 -- the areas of a command that is lent table 1 alone, or table 2 alone
 abbrev pub area1 : Counts → Edits → List Float → List Float
-area1 c e l = after 16 (c .matrices) (e .matrices) l
+area1 = afterIn matrixArea
 
 abbrev pub area2 : Counts → Edits → List Float → List Float
-area2 c e l = after 6 (c .viewports) (e .viewports) l
+area2 = afterIn viewportArea
 
 -- ---- matrices
 
 -- the top of the model stack
 abbrev pub modelTop : State → List (List Float)
-modelTop s = rows (s .stack) (16 * (s .depth - 1))
+modelTop s = rows (s .stack) (matrixWidth * (s .depth - 1))
+
+-- the model top times projection
+abbrev pub product : State → List Float
+product s = laid (times (modelTop s) (rows (s .projection) 0))
 
 -- m becomes the combined matrix, which is defined then, and is appended to table 1 unless the last entry equals it
 unfoldable pub combine : State → Table (List Float) → List Float → Plan
 combine s t m = appending 1 t m (λ e. does [] (withCombined s m true) (edits1 e))
 
--- the combined matrix is the model top times projection
+-- the combined matrix is that product
 abbrev pub recombine : State → Table (List Float) → Plan
-recombine s t = combine s t (laid (times (modelTop s) (rows (s .projection) 0)))
+recombine s t = combine s t (product s)
 
 -- the new projection; or the new top, in its place of the stack (a push copies the top, so what is made is made from the same matrix)
 unfoldable pub turned : Bool → Bool → Bool → State → List (List Float) → State
 turned push load projection s m =
     pick projection
     (withProjection s (laid (made load m (rows (s .projection) 0))))
-    (withModel s (pushed push (s .depth)) (put (s .stack) (16 * (pushed push (s .depth) - 1)) (laid (made load m (modelTop s)))))
+    (withModel s (pushed push (s .depth)) (put (s .stack) (matrixWidth * (pushed push (s .depth) - 1)) (laid (made load m (modelTop s)))))
 
 -- Matrix: flags push, load, projection; 64 bytes
 unfoldable pub matrixPlan : Family → State → Table (List Float) → ℕ → List ℕ → ℕ → Plan

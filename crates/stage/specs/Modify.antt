@@ -1,6 +1,6 @@
 -- The meaning of modify and of the ink count. Definitions only.
-use Prim.Native.Nat.{ℕ, _-_}
-use mathlib.Core.Bool.{Bool, false, _&&_}
+use Prim.Native.Nat.{ℕ, _+_, _-_}
+use mathlib.Core.Bool.{Bool, false, _&&_, cond}
 use mathlib.Core.List.{List, [], _∷_, map}
 use lib.ListN.{getD, set}
 use lib.Dec.{ltb}
@@ -8,51 +8,43 @@ use lib.Ieee.{Float, nan}
 use Rattle.change.specs.declared.Change.{Change}
 use Rattle.change.specs.declared.Asked.{Asked}
 use Rattle.change.specs.declared.Asked.the-variants.{Known, Unknown}
-use Rattle.change.specs.declared.judge.Slot.{Slot}
-use Rattle.change.specs.declared.judge.Tables.{Tables}
 use Rattle.change.specs.declared.judge.Moved.{Moved}
-use Rattle.change.specs.declared.judge.Refusal.{Refusal}
-use Rattle.change.specs.declared.judge.Refusal.the-variants.{NoRow, Short, Full}
-use Rattle.change.specs.declared.judge.Refusal.the-variants as refusal
-use Rattle.change.specs.Decoded.{decoded, floatsAfter, wordsAfter, depthAfter, floatWidth, wordWidth}
-use Rattle.change.specs.Judged.{unitEntry, appends, comesTo}
+use Rattle.change.specs.Decoded.{decoded, floatsAfter, wordsAfter, depthAfter}
+use Rattle.change.specs.Judged.{unitEntry, appends}
 use Rattle.change.specs.Ink.{inkOf}
 use Rattle.stage.specs.declared.State.{State}
 use Rattle.stage.specs.declared.Counts.{Counts}
-use Rattle.stage.specs.declared.Answer.{Answer}
-use Rattle.stage.specs.declared.Answer.the-variants.{BadModify, ShortArea, NoRoom, BadState}
-use Rattle.stage.specs.Plan.{Table, Edit, keep, grow, patch, Row, Edits, Plan, refuse, does, unless, pick, lent, judge, after, untouched, rowFloats, rowWords, only}
-use Rattle.stage.specs.Sound.{sound}
+use Rattle.stage.specs.Plan.{Table, Edit, keep, grow, patch, Row, Edits, Plan, refuse, does, unless, pick, lent, judge, untouched, undrawn, rowTable, rowWords, scaleArea, floatArea, wordArea, tableIn, afterIn, Outcome, carry}
+use Rattle.stage.specs.Sound.{sound, limit}
 use Rattle.stage.specs.With.{withUnit, withRow, withDrawn, withZ}
 
 -- edits of tables 3 and 7 alone
 abbrev pub edits37 : Edit (List Float) → Edit Row → Edits
-edits37 e r =
-    record { matrices = keep; viewports = keep; scales = e; lights = keep; lookats = keep; fogs = keep; rows = r; indices = keep; runs = keep }
+edits37 e r = record { matrices = keep; viewports = keep; scales = e; lights = keep; lookats = keep; fogs = keep; rows = r; drawing = undrawn }
 
 -- the areas of a command that is lent tables 3 and 7: scales, and the two of the rows
 abbrev pub areas37 : Counts → Edits → List Float × List Float × List ℕ → List Float × List Float × List ℕ
-areas37 c e l = (
-  after 4 (c .scales) (e .scales) (l .0),
-  after floatWidth (c .rows) (only rowFloats (e .rows)) (l .1),
-  after wordWidth (c .rows) (only rowWords (e .rows)) (l .2),
-)
+areas37 c e l = (afterIn scaleArea c e (l .0), afterIn floatArea c e (l .1), afterIn wordArea c e (l .2))
 
 -- ---- modify
-
--- what the judge looks at of the slot, of so many slots that there are, and of the two tables
-abbrev pub slotOf : ℕ → State → ℕ → Slot
-slotOf slots s slot =
-    record { loaded = ltb slot slots && getD (s .loaded) slot false; drawn = getD (s .drawn) slot false; row = getD (s .row) slot 0 }
-
-abbrev pub tablesOf : State → Table (List Float) → Table Row → Tables
-tablesOf s scales rows =
-    record { scales = s .counts .scales; scaleroom = scales .room; rows = s .counts .rows; rowroom = rows .room; unit = s .unit }
 
 -- refusal 5 for an attribute that asks for no change, else what is planned with the change
 unfoldable pub asking : Asked → ℕ → ℕ → (Change → Plan) → Plan
 asking Unknown slot attribute p = refuse 5 (slot ∷ attribute ∷ [])
 asking (Known c) slot attribute p = p c
+
+-- what a change of a slot comes to: a drawn slot's row is the copy at the end of the rows; a texture change has the unit scale entry, at the end
+-- of the scales where it is new; unit is its place plus 1
+unfoldable pub moved : Change → State → ℕ → Moved
+moved c s slot =
+    let drawn = getD (s .drawn) slot false in
+    let new = appends c (s .unit) in
+    record {
+      row = cond drawn (s .counts .rows) (getD (s .row) slot 0);
+      rows = cond drawn (s .counts .rows + 1) (s .counts .rows);
+      scales = cond new (s .counts .scales + 1) (s .counts .scales);
+      unit = cond new (s .counts .scales + 1) (s .unit);
+    }
 
 -- the unit scale entry is appended once per opening
 abbrev pub scaleEdit : Change → State → Edit (List Float)
@@ -79,32 +71,10 @@ rowChange c m s rows slot =
     let i = getD (s .row) slot 0 in
     rowEdit (getD (s .drawn) slot false) i (rowAfter c (m .unit) (getD (rows .used) i (record { floats = []; words = [] })))
 
--- the counts once the change is made
-abbrev pub countsTo : Moved → Counts → Counts
-countsTo m c =
-    record {
-      matrices = c .matrices;
-      viewports = c .viewports;
-      scales = m .scales;
-      lights = c .lights;
-      lookats = c .lookats;
-      fogs = c .fogs;
-      rows = m .rows;
-      indices = c .indices;
-      runs = c .runs;
-    }
-
--- the answer that a refusal of the judge stands for
-abbrev pub modifyAnswer : ℕ → ℕ → Refusal → Answer
-modifyAnswer slot attribute refusal.Unknown = BadModify slot attribute
-modifyAnswer slot attribute NoRow = BadState
-modifyAnswer slot attribute (Short t) = ShortArea t
-modifyAnswer slot attribute (Full t) = NoRoom t
-
 -- a change of a slot: 5, 10 for the slot's row, then tables 3 and 7
 unfoldable pub changePlan : ℕ → State → Table (List Float) → Table Row → ℕ → ℕ → Change → Plan
 changePlan slots s scales rows slot attribute c =
-    let m = comesTo c (slotOf slots s slot) (tablesOf s scales rows) in
+    let m = moved c s slot in
     unless (ltb slot slots && getD (s .loaded) slot false) (refuse 5 (slot ∷ attribute ∷ []))
     (unless (ltb (getD (s .row) slot 0) (s .counts .rows)) (refuse 10 [])
     (judge 8 (lent 3 scales keep ∷ lent 7 rows keep ∷ [])
@@ -114,6 +84,10 @@ changePlan slots s scales rows slot attribute c =
 -- Modify: a slot, an attribute and a value word
 unfoldable pub modifyPlan : ℕ → State → Table (List Float) → Table Row → ℕ → ℕ → ℕ → Plan
 modifyPlan slots s scales rows slot attribute value = sound s (asking (decoded attribute value) slot attribute (changePlan slots s scales rows slot attribute))
+
+-- what a modify comes to, for any state and areas
+abbrev pub modifyMeans : State → ℕ → ℕ → ℕ → List Float × List Float × List ℕ → Outcome (List Float × List Float × List ℕ)
+modifyMeans s slot attribute value l = carry areas37 (modifyPlan (limit s) s (tableIn scaleArea (s .counts) (l .0)) (rowTable (s .counts .rows) (l .1) (l .2)) slot attribute value) s l
 
 -- ---- ink count
 

@@ -5,14 +5,14 @@ use mathlib.Core.List.{List, [], _∷_, _++_}
 use lib.ListN.{length, replicate}
 use lib.IntN.{pos}
 use lib.Ieee.{Float}
-use Rattle.areas.specs.Area.{room, write}
+use Rattle.areas.specs.Widths.{matrixWidth, viewportWidth}
 use Rattle.matrix.specs.Math.{zero, identity, laid}
 use Rattle.stage.specs.declared.State.{State}
 use Rattle.stage.specs.declared.Counts.{Counts}
 use Rattle.stage.specs.declared.Texture.{Texture}
 use Rattle.stage.specs.declared.Lights.{Lights}
 use Rattle.stage.specs.declared.Lookat.{Lookat}
-use Rattle.stage.specs.Plan.{Edits, Edit, keep, grow, Plan, does, judge, Outcome, carry, after, table, lent}
+use Rattle.stage.specs.Plan.{Edits, Edit, keep, grow, Plan, does, judge, Outcome, carry, table, lent, undrawn, matrixArea, viewportArea, afterIn}
 use Rattle.stage.specs.With.{Slots, state, withModel, withProjection, withCombined}
 
 -- n zeros
@@ -49,14 +49,14 @@ opened = withCombined (withProjection (withModel (blank true) 1 (laid identity +
 -- identity as entry 0 of table 1, zeros as entry 0 of table 2
 abbrev pub openingEdits : Edits
 openingEdits =
-    record { matrices = grow (laid identity ∷ []); viewports = grow (zeros 6 ∷ []); scales = keep; lights = keep; lookats = keep; fogs = keep; rows = keep; indices = keep; runs = keep }
+    record { matrices = grow (laid identity ∷ []); viewports = grow (zeros 6 ∷ []); scales = keep; lights = keep; lookats = keep; fogs = keep; rows = keep; drawing = undrawn }
 
 -- Opening: room for one entry in tables 1 and 2, else 9
 unfoldable pub openingPlan : List Float → List Float → Plan
 openingPlan m v =
-    judge 9 (lent 1 (table 16 0 m) (openingEdits .matrices) ∷ lent 2 (table 6 0 v) (openingEdits .viewports) ∷ [])
+    judge 9 (lent 1 (table matrixWidth 0 m) (openingEdits .matrices) ∷ lent 2 (table viewportWidth 0 v) (openingEdits .viewports) ∷ [])
     (does [] opened openingEdits)
 
 -- the areas of opening: tables 1 and 2
 abbrev pub areas12 : Counts → Edits → List Float × List Float → List Float × List Float
-areas12 c e l = (after 16 (c .matrices) (e .matrices) (l .0), after 6 (c .viewports) (e .viewports) (l .1))
+areas12 c e l = (afterIn matrixArea c e (l .0), afterIn viewportArea c e (l .1))

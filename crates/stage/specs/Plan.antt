@@ -8,6 +8,7 @@ use lib.IntN.{ℤ}
 use lib.Dec.{leb}
 use lib.Ieee.{Float, eq}
 use Rattle.areas.specs.Area.{entries, room, matches}
+use Rattle.areas.specs.Widths.{matrixWidth, viewportWidth, scaleWidth, lightWidth, lookatWidth, fogWidth, floatWidth, wordWidth, indexWidth, runWidth}
 pub use Rattle.areas.specs.Table.{Table, table, Edit, keep, grow, patch, more, counted, after}
 use Rattle.decide.specs.Append.{final}
 use Rattle.decide.specs.Judge.{Lent, fits}
@@ -20,7 +21,7 @@ use Rattle.stage.specs.With.{withCounts}
 
 -- ---- tables
 
--- an entry of table 7: 9 f32 and 10 u32
+-- an entry of table 7: its f32 and its u32
 pub record Row : Type 0 where
   pub floats : List Float
   pub words : List ℕ
@@ -33,7 +34,7 @@ rowsOf (f ∷ fs) (w ∷ ws) = record { floats = f; words = w } ∷ rowsOf fs ws
 
 -- table 7 of n rows in use, in the areas f and w; the lesser room counts
 abbrev pub rowTable : ℕ → List Float → List ℕ → Table Row
-rowTable n f w = record { used = rowsOf (entries 9 n f) (entries 10 n w); room = min (room 9 (length f)) (room 10 (length w)) }
+rowTable n f w = record { used = rowsOf (entries floatWidth n f) (entries wordWidth n w); room = min (room floatWidth (length f)) (room wordWidth (length w)) }
 
 -- the numbers of one kind of a row
 abbrev pub rowFloats : Row → List Float
@@ -48,6 +49,11 @@ only f keep = keep
 only f (grow es) = grow (map f es)
 only f (patch i e) = patch i (f e)
 
+-- tables 8 and 9, which drawing fills: of each the same thing
+pub record Drawing (E : Type 0) : Type 0 where
+  pub indices : E
+  pub runs : E
+
 -- what a command does to each table, 1 to 9
 pub record Edits : Type 0 where
   pub matrices : Edit (List Float)
@@ -57,8 +63,62 @@ pub record Edits : Type 0 where
   pub lookats : Edit (List Float)
   pub fogs : Edit (List ℤ)
   pub rows : Edit Row
-  pub indices : Edit (List ℕ)
-  pub runs : Edit (List ℕ)
+  pub drawing : Drawing (Edit (List ℕ))
+
+-- nothing drawn
+abbrev pub undrawn : Drawing (Edit (List ℕ))
+undrawn = record { indices = keep; runs = keep }
+
+-- no table changes
+abbrev pub untouched : Edits
+untouched = record { matrices = keep; viewports = keep; scales = keep; lights = keep; lookats = keep; fogs = keep; rows = keep; drawing = undrawn }
+
+-- ---- the ten areas
+
+-- a lent area: how many numbers an entry has, which count says how many are in use, and which edit changes it
+pub record Area (A : Type 0) : Type 0 where
+  pub width : ℕ
+  pub count : Counts → ℕ
+  pub edit : Edits → Edit (List A)
+
+-- those of tables 1 to 9, by their names; table 7 has two
+abbrev pub matrixArea : Area Float
+matrixArea = record { width = matrixWidth; count = λ c. c .matrices; edit = λ e. e .matrices }
+
+abbrev pub viewportArea : Area Float
+viewportArea = record { width = viewportWidth; count = λ c. c .viewports; edit = λ e. e .viewports }
+
+abbrev pub scaleArea : Area Float
+scaleArea = record { width = scaleWidth; count = λ c. c .scales; edit = λ e. e .scales }
+
+abbrev pub lightArea : Area Float
+lightArea = record { width = lightWidth; count = λ c. c .lights; edit = λ e. e .lights }
+
+abbrev pub lookatArea : Area Float
+lookatArea = record { width = lookatWidth; count = λ c. c .lookats; edit = λ e. e .lookats }
+
+abbrev pub fogArea : Area ℤ
+fogArea = record { width = fogWidth; count = λ c. c .fogs; edit = λ e. e .fogs }
+
+abbrev pub floatArea : Area Float
+floatArea = record { width = floatWidth; count = λ c. c .rows; edit = λ e. only rowFloats (e .rows) }
+
+abbrev pub wordArea : Area ℕ
+wordArea = record { width = wordWidth; count = λ c. c .rows; edit = λ e. only rowWords (e .rows) }
+
+abbrev pub indexArea : Area ℕ
+indexArea = record { width = indexWidth; count = λ c. c .indices; edit = λ e. e .drawing .indices }
+
+abbrev pub runArea : Area ℕ
+runArea = record { width = runWidth; count = λ c. c .runs; edit = λ e. e .drawing .runs }
+
+-- the table in such an area, for the counts c
+abbrev pub tableIn : {A : Type 0} → Area A → Counts → List A → Table (List A)
+tableIn k c l = table (k .width) (k .count c) l
+
+-- such an area after a command's edits, for the counts c before it
+abbrev pub afterIn : {A : Type 0} → Area A → Counts → Edits → List A → List A
+afterIn k c e l = after (k .width) (k .count c) (k .edit e) l
 
 -- ---- plans
 
@@ -101,8 +161,8 @@ advance e c =
       lookats = counted (e .lookats) (c .lookats);
       fogs = counted (e .fogs) (c .fogs);
       rows = counted (e .rows) (c .rows);
-      indices = counted (e .indices) (c .indices);
-      runs = counted (e .runs) (c .runs);
+      indices = counted (e .drawing .indices) (c .indices);
+      runs = counted (e .drawing .runs) (c .runs);
     }
 
 -- what a command hands back, the answer by number and values, and what its areas hold then
@@ -123,18 +183,3 @@ carry f (does vs t e) s l = record { state = withCounts t (advance e (s .counts)
 -- the areas of a command that is lent none
 abbrev pub nothing : Counts → Edits → Unit {0} → Unit {0}
 nothing c e l = l
-
--- no table changes
-abbrev pub untouched : Edits
-untouched =
-    record {
-      matrices = keep;
-      viewports = keep;
-      scales = keep;
-      lights = keep;
-      lookats = keep;
-      fogs = keep;
-      rows = keep;
-      indices = keep;
-      runs = keep;
-    }

@@ -1,6 +1,6 @@
 -- A state with one of its parts replaced. A state is four groups of fields, and a setter makes one group anew: a new field of the state touches its group, and this file alone.
 use Prim.Native.Nat.{ℕ}
-use mathlib.Core.Bool.{Bool, false}
+use mathlib.Core.Bool.{Bool, true, false}
 use mathlib.Core.List.{List}
 use lib.IntN.{ℤ}
 use lib.Ieee.{Float}
@@ -189,3 +189,11 @@ withColumns l d c = record { number = l .number; directions = d; colours = c; am
 -- other lookat axes, marked changed or not
 abbrev pub withAxes : Lookat → List Float → Bool → Lookat
 withAxes l a b = record { axes = a; changed = b; folded = l .folded; top = l .top; place = l .place }
+
+-- the lights folded with the model top m, as entry n
+abbrev pub foldedLights : Lights → List Float → ℕ → Lights
+foldedLights l m n = record { number = l .number; directions = l .directions; colours = l .colours; ambient = l .ambient; changed = false; folded = true; top = m; first = n }
+
+-- the lookat axes likewise
+abbrev pub foldedLookat : Lookat → List Float → ℕ → Lookat
+foldedLookat l m n = record { axes = l .axes; changed = false; folded = true; top = m; place = n }

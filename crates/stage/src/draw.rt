@@ -1,10 +1,11 @@
 // The cull test, the depth test and draw.
 ghost use mathlib.Core.Path.{_≡_};
 ghost use mathlib.Core.List.{[], _∷_};
-ghost use Rattle.decide.specs.Family.{f3dex2};
-ghost use Rattle.stage.specs.Plan.{outcome, carry, table, nothing, pick};
+ghost use Rattle.stage.specs.Plan.{outcome, carry, nothing, pick};
+ghost use Rattle.stage.specs.Sound.{limit};
 ghost use Rattle.stage.specs.declared.Answer.the-variants.{NotLoaded, NoCode};
-ghost use Rattle.stage.specs.Draw.{cullPlan, depthPlan, areas89, drawPlan, drawAnswer};
+ghost use Rattle.stage.specs.Draw.{cullPlan, depthPlan, drawMeans};
+ghost use Rattle.stage.specs.Steps.{drawAnswer};
 use crate::Answer;
 use crate::Answered;
 use crate::State;
@@ -40,8 +41,8 @@ fn answer_of(v: Verdict) -> Answer
 
 impl State {
     // Cull test: 1 where the slots first to last all lie outside one of the four side planes, else 0.
-    pub fn cull_display_list(self, first: u32, last: u32) -> Answered
-        ensures { λ r. ⌜ outcome r tt ≡ carry nothing (cullPlan 256 self first last) self tt ⌝ }
+    pub fn cull_display_list(mut self, first: u32, last: u32) -> Answered
+        ensures { λ r. ⌜ outcome r tt ≡ carry nothing (cullPlan (limit self) self first last) self tt ⌝ }
     {
         if !self.sound() {
             return Answered {
@@ -78,8 +79,8 @@ impl State {
     }
 
     // Depth test: 1 where the slot's screen z is at most the threshold over 65536, else 0.
-    pub fn branch_z(self, slot: u32, threshold: u32) -> Answered
-        ensures { λ r. ⌜ outcome r tt ≡ carry nothing (depthPlan 256 self slot threshold) self tt ⌝ }
+    pub fn branch_z(mut self, slot: u32, threshold: u32) -> Answered
+        ensures { λ r. ⌜ outcome r tt ≡ carry nothing (depthPlan (limit self) self slot threshold) self tt ⌝ }
     {
         if !self.sound() {
             return Answered {
@@ -123,7 +124,7 @@ impl State {
         indices: &mut [u32],
         runs: &mut [u32],
     ) -> Answered
-        ensures { λ r. ⌜ outcome r (now (indices .exit), now (runs .exit)) ≡ carry areas89 (drawPlan f3dex2 256 self (table 1 (self .counts .indices) (now (indices .entry))) (table 8 (self .counts .runs) (now (runs .entry))) a b c (material ∷ «render_mode» ∷ «fog_colour» ∷ «prim_depth» ∷ [])) self (now (indices .entry), now (runs .entry)) ⌝ }
+        ensures { λ r. ⌜ outcome r (now (indices .exit), now (runs .exit)) ≡ drawMeans self a b c (material ∷ «render_mode» ∷ «fog_colour» ∷ «prim_depth» ∷ []) (now (indices .entry), now (runs .entry)) ⌝ }
     {
         let row = self.row;
         let ever = self.ever;

@@ -6,8 +6,10 @@ ghost use lib.ListN.{length};
 ghost use Rattle.areas.specs.Area.{entries, room};
 ghost use Rattle.decide.specs.Family.{f3dex2};
 ghost use Rattle.decide.specs.Judge.{firstShort};
-ghost use Rattle.stage.specs.Plan.{outcome, carry, table, pick};
-ghost use Rattle.stage.specs.Load.{settled, foldedLights, foldedLookat, combinedNow, sharedBy, settledState, loadEdits, loadPlan, areasLoad, Ranged, TablesAre, roomsOf, sixLent, moreBy, noMore, earlyAnswer, loadAreas, loadTables};
+ghost use Rattle.stage.specs.Plan.{outcome, pick};
+ghost use Rattle.stage.specs.With.{foldedLights, foldedLookat};
+ghost use Rattle.stage.specs.Load.{settled, combinedNow, sharedBy, settledState, loadEdits, loadAreas, loadMeans};
+ghost use Rattle.stage.specs.Steps.{Ranged, TablesAre, roomsOf, sixLent, moreBy, noMore, earlyAnswer};
 use crate::Answer;
 use crate::Answered;
 use crate::Counts;
@@ -350,7 +352,7 @@ impl State {
 
     // Load: `count` vertices of 16 bytes into the slots from `first` on. Nothing is written before all is judged.
     pub fn load(
-        self,
+        mut self,
         first: u32,
         count: u32,
         data: &[u8],
@@ -363,7 +365,7 @@ impl State {
         floats: &mut [f32],
         words: &mut [u32],
     ) -> Answered
-        ensures { λ r. ⌜ outcome r (loadAreas (now (matrices .exit)) (now (scales .exit)) (now (lights .exit)) (now (lookats .exit)) (now (fogs .exit)) (now (floats .exit)) (now (words .exit))) ≡ carry areasLoad (loadPlan f3dex2 256 self (loadTables (self .counts) (loadAreas (now (matrices .entry)) (now (scales .entry)) (now (lights .entry)) (now (lookats .entry)) (now (fogs .entry)) (now (floats .entry)) (now (words .entry)))) first count (now («data» .entry)) at) self (loadAreas (now (matrices .entry)) (now (scales .entry)) (now (lights .entry)) (now (lookats .entry)) (now (fogs .entry)) (now (floats .entry)) (now (words .entry))) ⌝ }
+        ensures { λ r. ⌜ outcome r (loadAreas (now (matrices .exit)) (now (scales .exit)) (now (lights .exit)) (now (lookats .exit)) (now (fogs .exit)) (now (floats .exit)) (now (words .exit))) ≡ loadMeans self first count (now («data» .entry)) at (loadAreas (now (matrices .entry)) (now (scales .entry)) (now (lights .entry)) (now (lookats .entry)) (now (fogs .entry)) (now (floats .entry)) (now (words .entry))) ⌝ }
     {
         let rooms = rooms_of(matrices, scales, lights, lookats, fogs, floats, words);
         let early = self.early(first, count, data.len(), at, rooms);

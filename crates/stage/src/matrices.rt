@@ -5,12 +5,11 @@ ghost use lib.ListN.{length};
 ghost use mathlib.Core.Bool.{false};
 ghost use lib.Dec.{leb};
 ghost use Rattle.areas.specs.Area.{room};
-ghost use Rattle.matrix.specs.Math.{rows, laid, times};
 ghost use Rattle.decide.specs.Family.{f3dex2};
-ghost use Rattle.stage.specs.Plan.{outcome, carry, table, nothing};
+ghost use Rattle.stage.specs.Plan.{outcome, carry, nothing, matrixArea, viewportArea, tableIn};
 ghost use Rattle.stage.specs.Sound.{all, countTests, stateSound};
 ghost use Rattle.stage.specs.Opening.{blank, opened, openingPlan, areas12};
-ghost use Rattle.stage.specs.Matrices.{area1, area2, modelTop, combine, turned, matrixPlan, forcePlan, popPlan, viewing, viewportPlan, geometryPlan};
+ghost use Rattle.stage.specs.Matrices.{area1, area2, product, combine, turned, matrixPlan, forcePlan, popPlan, viewing, viewportPlan, geometryPlan};
 use crate::Answer;
 use crate::Answered;
 use crate::Counts;
@@ -181,7 +180,7 @@ impl State {
     // The model top times projection. Asks for a depth in its range.
     pub(crate) fn product(self) -> [f32; 16]
         requires { ⌜ (1 ≤ self .depth) × (self .depth ≤ 32) ⌝ }
-        ensures { λ r. ⌜ r ≡ laid (times (modelTop self) (rows (self .projection) 0)) ⌝ }
+        ensures { λ r. ⌜ r ≡ product self ⌝ }
     {
         let stack = self.stack;
         let p = self.projection;
@@ -195,7 +194,7 @@ impl State {
     // judged by then: the count, and that the area holds what is in use.
     fn combined_to(self, next: State, m: [f32; 16], matrices: &mut [f32]) -> Answered
         requires { ⌜ (self .counts .matrices ≤ 1048576) × (self .counts .matrices ≤ room 16 (length (now matrices))) ⌝ }
-        ensures { λ r. ⌜ outcome r (now (matrices .exit)) ≡ carry area1 (combine next (table 16 (self .counts .matrices) (now (matrices .entry))) m) self (now (matrices .entry)) ⌝ }
+        ensures { λ r. ⌜ outcome r (now (matrices .exit)) ≡ carry area1 (combine next (tableIn matrixArea (self .counts) (now (matrices .entry))) m) self (now (matrices .entry)) ⌝ }
     {
         let mut counts = self.counts;
         let n = counts.matrices;
@@ -225,8 +224,8 @@ impl State {
     }
 
     // Matrix: flags push 1, load 2, projection 4, after the exclusive-or with 1 of the command word.
-    pub fn matrix(self, flags: u8, data: &[u8], at: usize, matrices: &mut [f32]) -> Answered
-        ensures { λ r. ⌜ outcome r (now (matrices .exit)) ≡ carry area1 (matrixPlan f3dex2 self (table 16 (self .counts .matrices) (now (matrices .entry))) flags (now («data» .entry)) at) self (now (matrices .entry)) ⌝ }
+    pub fn matrix(mut self, flags: u8, data: &[u8], at: usize, matrices: &mut [f32]) -> Answered
+        ensures { λ r. ⌜ outcome r (now (matrices .exit)) ≡ carry area1 (matrixPlan f3dex2 self (tableIn matrixArea (self .counts) (now (matrices .entry))) flags (now («data» .entry)) at) self (now (matrices .entry)) ⌝ }
     {
         if !self.sound() {
             return Answered {
@@ -256,8 +255,8 @@ impl State {
     }
 
     // Forced matrix: 64 bytes become the combined matrix; the stack and the projection stay.
-    pub fn force_matrix(self, data: &[u8], at: usize, matrices: &mut [f32]) -> Answered
-        ensures { λ r. ⌜ outcome r (now (matrices .exit)) ≡ carry area1 (forcePlan self (table 16 (self .counts .matrices) (now (matrices .entry))) (now («data» .entry)) at) self (now (matrices .entry)) ⌝ }
+    pub fn force_matrix(mut self, data: &[u8], at: usize, matrices: &mut [f32]) -> Answered
+        ensures { λ r. ⌜ outcome r (now (matrices .exit)) ≡ carry area1 (forcePlan self (tableIn matrixArea (self .counts) (now (matrices .entry))) (now («data» .entry)) at) self (now (matrices .entry)) ⌝ }
     {
         if !self.sound() {
             return Answered {
@@ -282,8 +281,8 @@ impl State {
     }
 
     // Pop: any count in one step.
-    pub fn pop_matrix(self, count: u32, matrices: &mut [f32]) -> Answered
-        ensures { λ r. ⌜ outcome r (now (matrices .exit)) ≡ carry area1 (popPlan self (table 16 (self .counts .matrices) (now (matrices .entry))) count) self (now (matrices .entry)) ⌝ }
+    pub fn pop_matrix(mut self, count: u32, matrices: &mut [f32]) -> Answered
+        ensures { λ r. ⌜ outcome r (now (matrices .exit)) ≡ carry area1 (popPlan self (tableIn matrixArea (self .counts) (now (matrices .entry))) count) self (now (matrices .entry)) ⌝ }
     {
         if !self.sound() {
             return Answered {
@@ -312,7 +311,7 @@ impl State {
     // The state with the viewport v, or as given where table 2 has no room for it. Asks for what has been judged by then.
     fn viewport_to(self, v: [f32; 6], viewports: &mut [f32]) -> Answered
         requires { ⌜ (self .counts .viewports ≤ 1048576) × (self .counts .viewports ≤ room 6 (length (now viewports))) ⌝ }
-        ensures { λ r. ⌜ outcome r (now (viewports .exit)) ≡ carry area2 (viewing self (table 6 (self .counts .viewports) (now (viewports .entry))) v) self (now (viewports .entry)) ⌝ }
+        ensures { λ r. ⌜ outcome r (now (viewports .exit)) ≡ carry area2 (viewing self (tableIn viewportArea (self .counts) (now (viewports .entry))) v) self (now (viewports .entry)) ⌝ }
     {
         let mut counts = self.counts;
         let n = counts.viewports;
@@ -340,8 +339,8 @@ impl State {
     }
 
     // Viewport: 16 bytes.
-    pub fn set_viewport(self, data: &[u8], at: usize, viewports: &mut [f32]) -> Answered
-        ensures { λ r. ⌜ outcome r (now (viewports .exit)) ≡ carry area2 (viewportPlan self (table 6 (self .counts .viewports) (now (viewports .entry))) (now («data» .entry)) at) self (now (viewports .entry)) ⌝ }
+    pub fn set_viewport(mut self, data: &[u8], at: usize, viewports: &mut [f32]) -> Answered
+        ensures { λ r. ⌜ outcome r (now (viewports .exit)) ≡ carry area2 (viewportPlan self (tableIn viewportArea (self .counts) (now (viewports .entry))) (now («data» .entry)) at) self (now (viewports .entry)) ⌝ }
     {
         if !self.sound() {
             return Answered {

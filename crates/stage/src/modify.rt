@@ -4,8 +4,9 @@ ghost use Prim.Native.Nat.{_<_};
 ghost use lib.ListN.{length};
 ghost use Rattle.areas.specs.Area.{room};
 ghost use Rattle.change.specs.Judged.{rowRoom};
-ghost use Rattle.stage.specs.Plan.{outcome, carry, table, nothing, rowTable};
-ghost use Rattle.stage.specs.Modify.{areas37, modifyAnswer, countsTo, changed, modifyPlan, inkPlan};
+ghost use Rattle.stage.specs.Plan.{outcome, carry, nothing, rowTable, indexArea, tableIn};
+ghost use Rattle.stage.specs.Modify.{changed, modifyMeans, inkPlan};
+ghost use Rattle.stage.specs.Steps.{modifyAnswer, countsTo};
 ghost use Rattle.stage.specs.With.{withCounts};
 use crate::Answer;
 use crate::Answered;
@@ -68,7 +69,7 @@ impl State {
 
     // Modify: attributes 0x10, 0x14, 0x18 and 0x1C. All is judged before anything is written.
     pub fn modify_vertex(
-        self,
+        mut self,
         slot: u32,
         attribute: u32,
         value: u32,
@@ -76,7 +77,7 @@ impl State {
         floats: &mut [f32],
         words: &mut [u32],
     ) -> Answered
-        ensures { λ r. ⌜ outcome r (now (scales .exit), now (floats .exit), now (words .exit)) ≡ carry areas37 (modifyPlan 256 self (table 4 (self .counts .scales) (now (scales .entry))) (rowTable (self .counts .rows) (now (floats .entry)) (now (words .entry))) slot attribute value) self (now (scales .entry), now (floats .entry), now (words .entry)) ⌝ }
+        ensures { λ r. ⌜ outcome r (now (scales .exit), now (floats .exit), now (words .exit)) ≡ modifyMeans self slot attribute value (now (scales .entry), now (floats .entry), now (words .entry)) ⌝ }
     {
         if !self.sound() {
             return Answered {
@@ -119,8 +120,14 @@ impl State {
     }
 
     // Ink count: how many indices in use are of rows in use that have the colour word.
-    pub fn ink_count(self, colour: u32, floats: &[f32], words: &[u32], indices: &[u32]) -> Answered
-        ensures { λ r. ⌜ outcome r tt ≡ carry nothing (inkPlan self (rowTable (self .counts .rows) (now (floats .entry)) (now (words .entry))) (table 1 (self .counts .indices) (now (indices .entry))) colour) self tt ⌝ }
+    pub fn ink_count(
+        mut self,
+        colour: u32,
+        floats: &[f32],
+        words: &[u32],
+        indices: &[u32],
+    ) -> Answered
+        ensures { λ r. ⌜ outcome r tt ≡ carry nothing (inkPlan self (rowTable (self .counts .rows) (now (floats .entry)) (now (words .entry))) (tableIn indexArea (self .counts) (now (indices .entry))) colour) self tt ⌝ }
     {
         if !self.sound() {
             return Answered {

@@ -1,6 +1,6 @@
 // The rows of a load: each vertex read, its row written to both areas, its slot filled.
 ghost use Rattle.vertex.specs.Vertices.{verticesAt};
-ghost use Rattle.stage.specs.Rows.{RowsFit, RowsLaid};
+ghost use Rattle.stage.specs.Steps.{RowsFit, RowsLaid};
 use crate::State;
 use vertex::Shared;
 

@@ -116,7 +116,7 @@ impl State {
     }
 
     // Number of lights, told in bytes.
-    pub fn set_num_lights(self, bytes: u32) -> Answered
+    pub fn set_num_lights(mut self, bytes: u32) -> Answered
         ensures { λ r. ⌜ outcome r tt ≡ carry nothing (numberPlan self (lightNumber bytes)) self tt ⌝ }
     {
         self.numbered(decide::lights::light_number(bytes))
@@ -163,7 +163,7 @@ impl State {
     }
 
     // Light: slot = number is the ambient colour.
-    pub fn set_light(self, slot: u32, data: &[u8], at: usize) -> Answered
+    pub fn set_light(mut self, slot: u32, data: &[u8], at: usize) -> Answered
         ensures { λ r. ⌜ outcome r tt ≡ carry nothing (lightPlan self slot (now («data» .entry)) at) self tt ⌝ }
     {
         if !self.sound() {

@@ -9,7 +9,7 @@ use Rattle.decide.specs.Judge.{firstShort}
 use Rattle.stage.specs.declared.load.More.{More}
 use Rattle.stage.specs.Plan.{pick}
 use Rattle.stage.specs.Sound.{stateSound}
-use Rattle.stage.specs.Load.{sixLent, noMore, earlyAnswer}
+use Rattle.stage.specs.Steps.{sixLent, noMore, earlyAnswer}
 use Rattle.stage.proofs.Judged.{and-left}
 use Rattle.stage.proofs.Cascade.{fails, holds}
 use borrow.Author.Needs.{needs}

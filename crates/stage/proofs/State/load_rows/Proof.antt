@@ -6,7 +6,8 @@ use mathlib.Core.Path.{_≡_, refl}
 use lib.ListN.{length}
 use borrow.Author.Needs.{needs}
 use Rattle.vertex.specs.Vertices.{verticesAt}
-use Rattle.stage.specs.Rows.{RowsLaid, fillSlot}
+use Rattle.stage.specs.Rows.{fillSlot}
+use Rattle.stage.specs.Steps.{RowsLaid}
 use Rattle.stage.proofs.Filling.{laid-long, laid-none, laid-more}
 use Rattle.stage.proofs.State.load_rows.Statement.{statement}
 use Rattle.stage.proofs.State.load_rows.Tie as tie

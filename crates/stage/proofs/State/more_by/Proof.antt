@@ -1,4 +1,4 @@
-use Rattle.stage.specs.Load.{moreBy}
+use Rattle.stage.specs.Steps.{moreBy}
 use borrow.Author.Needs.{needs}
 use Rattle.stage.proofs.State.more_by.Statement.{statement}
 use Rattle.stage.proofs.State.more_by.Tie as tie

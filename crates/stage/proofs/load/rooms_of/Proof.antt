@@ -1,4 +1,4 @@
-use Rattle.stage.specs.Load.{roomsOf}
+use Rattle.stage.specs.Steps.{roomsOf}
 use borrow.Author.Needs.{needs}
 use Rattle.stage.proofs.load.rooms_of.Statement.{statement}
 use Rattle.stage.proofs.load.rooms_of.Tie as tie
