@@ -8,8 +8,9 @@ use mathlib.Core.List.{List}
 use lib.Dec.{ltb, leb}
 use lib.Ieee.{Float}
 use borrow.Author.Tests.{ltb-true, le-leb, lt-leb, not-true, not-false}
+use Rattle.numbers.specs.Choice.{pick}
 use Rattle.matrix.specs.Math.{times}
-use Rattle.decide.specs.Family.{flag, f3dex2, lit, texgenMode}
+use Rattle.decide.specs.Family.{Family, flag, lit, texgenMode}
 use Rattle.decide.specs.Stack.{made, pushed, popped}
 
 -- the second of two tests that both hold
@@ -31,11 +32,11 @@ pub push-room : (push : Bool) (d : ℕ) → push && ltb d 32 ≡ true → d < 32
 push-room push d e = ltb-true d 32 (and-right push (ltb d 32) e)
 
 pub push-taken : (push : Bool) (d : ℕ) → push && ltb d 32 ≡ true → d + 1 ≡ pushed push d
-unfolding pushed
+unfolding pushed pick
 push-taken push d e = rw e
 
 pub push-dropped : (push : Bool) (d : ℕ) → push && ltb d 32 ≡ false → d ≡ pushed push d
-unfolding pushed
+unfolding pushed pick
 push-dropped push d e = rw e
 
 pub popped-some : (count d : ℕ) → count < d → d - count ≡ popped count d
@@ -62,15 +63,15 @@ pub no-flag : (v x : ℕ) → v ≡ 0 → false ≡ flag v x
 no-flag v x e = rw (e, div-zero)
 
 -- the texgen mode, by the tests
-module _ (g : ℕ) (a b : Bool) (is-lit : a ≡ lit f3dex2 g) (is-texgen : b ≡ flag 0x40000 g) where
-  pub no-texgen : not (a && b) ≡ true → 0 ≡ texgenMode f3dex2 g
-  unfolding texgenMode
+module _ (f : Family) (g : ℕ) (a b : Bool) (is-lit : a ≡ lit f g) (is-texgen : b ≡ flag (f .texgen) g) where
+  pub no-texgen : not (a && b) ≡ true → 0 ≡ texgenMode f g
+  unfolding texgenMode pick
   no-texgen h = rw (← is-lit, ← is-texgen, not-true (a && b) h)
 
-  pub linear-texgen : not (a && b) ≡ false → (l : Bool) → l ≡ flag 0x80000 g → l ≡ true → 2 ≡ texgenMode f3dex2 g
-  unfolding texgenMode
+  pub linear-texgen : not (a && b) ≡ false → (l : Bool) → l ≡ flag (f .linear) g → l ≡ true → 2 ≡ texgenMode f g
+  unfolding texgenMode pick
   linear-texgen h l e t = rw (← is-lit, ← is-texgen, not-false (a && b) h, ← e, t)
 
-  pub plain-texgen : not (a && b) ≡ false → (l : Bool) → l ≡ flag 0x80000 g → l ≡ false → 1 ≡ texgenMode f3dex2 g
-  unfolding texgenMode
+  pub plain-texgen : not (a && b) ≡ false → (l : Bool) → l ≡ flag (f .linear) g → l ≡ false → 1 ≡ texgenMode f g
+  unfolding texgenMode pick
   plain-texgen h l e t = rw (← is-lit, ← is-texgen, not-false (a && b) h, ← e, t)

@@ -6,18 +6,20 @@ use mathlib.Core.Bool.{Bool, true, false, not, _&&_}
 use mathlib.Core.List.{List, [], _∷_}
 use lib.Dec.{leb}
 use borrow.Author.Tests.{not-true, not-false, le-leb, lt-leb}
+use Rattle.numbers.specs.Choice.{unless}
 use Rattle.decide.specs.declared.judge.Fill.{Fill}
-use Rattle.decide.specs.Judge.{Lent, orElse, firstShort, fillOf, shortOf}
+use Rattle.decide.specs.Judge.{Lent, firstShort}
+use Rattle.decide.specs.Steps.{fillOf, shortOf}
 use Rattle.decide.proofs.Rules.{reaches-in}
 
 -- the table k does not fit: it is the first
 pub short-here : (k : ℕ) (t : Fill) (ts : List Lent) (r : Bool) → r ≡ shortOf t → r ≡ true → k ≡ firstShort (fillOf k t ∷ ts)
-unfolding firstShort orElse
+unfolding firstShort unless
 short-here k t ts r e h = rw (not-true (leb (t .used + t .more) (t .room)) (sym e ∙ h))
 
 -- it fits: the first is among those that follow
 pub short-after : (k : ℕ) (t : Fill) (ts : List Lent) (r : Bool) (n : ℕ) → r ≡ shortOf t → r ≡ false → n ≡ firstShort ts → n ≡ firstShort (fillOf k t ∷ ts)
-unfolding firstShort orElse
+unfolding firstShort unless
 short-after k t ts r n e h m = rw (not-false (leb (t .used + t .more) (t .room)) (sym e ∙ h)) m
 
 -- slots counted from the first on are there, or are not

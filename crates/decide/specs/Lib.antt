@@ -3,3 +3,4 @@ pub mod Family
 pub mod Judge
 pub mod Lights
 pub mod Stack
+pub mod Steps

@@ -1,12 +1,13 @@
 -- The rules of the model stack and of the geometry mode word. Definitions only.
 use Prim.Native.Nat.{ℕ, _+_, _-_, max}
-use mathlib.Core.Bool.{Bool, true, false, not, _&&_, cond, Bool·beq}
+use mathlib.Core.Bool.{Bool, true, false, not, _&&_, Bool·beq}
 use mathlib.Core.List.{List}
 use lib.Bits.{bitAnd, bitOr}
 use lib.Dec.{ltb}
 use lib.Ieee.{Float}
+use Rattle.numbers.specs.Choice.{pick}
 use Rattle.matrix.specs.Math.{times}
-use Rattle.decide.specs.Family.{Family, flag}
+use Rattle.decide.specs.Family.{Family, lit}
 
 -- data, or data times what stood there
 unfoldable pub made : Bool → List (List Float) → List (List Float) → List (List Float)
@@ -15,7 +16,7 @@ made false m old = times m old
 
 -- the depth after a push, which is dropped at 32
 unfoldable pub pushed : Bool → ℕ → ℕ
-pushed push depth = cond (push && ltb depth 32) (depth + 1) depth
+pushed push depth = pick (push && ltb depth 32) (depth + 1) depth
 
 -- the depth after count pops, never below 1
 unfoldable pub popped : ℕ → ℕ → ℕ
@@ -27,4 +28,4 @@ geometryAfter off on old = bitOr (bitAnd old off) on
 
 -- the lighting bit differs
 unfoldable pub relit : Family → ℕ → ℕ → Bool
-relit f old new = not (Bool·beq (flag (f .lighting) old) (flag (f .lighting) new))
+relit f old new = not (Bool·beq (lit f old) (lit f new))

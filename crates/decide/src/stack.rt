@@ -3,7 +3,7 @@ ghost use mathlib.Core.Path.{_≡_};
 ghost use Prim.Native.Nat.{_+_, _-_, _*_, _≤_};
 ghost use Rattle.matrix.specs.Math.{rows};
 ghost use Rattle.decide.specs.Stack.{made, pushed, popped, geometryAfter, relit};
-ghost use Rattle.decide.specs.Family.{f3dex2};
+use crate::family::Family;
 
 // Data, or data times what stood there.
 pub fn made_of(load: bool, m: [[f32; 4]; 4], old: [[f32; 4]; 4]) -> [[f32; 4]; 4]
@@ -57,8 +57,8 @@ pub fn geometry_after(off: u32, on: u32, old: u32) -> u32
 }
 
 // Whether the lighting bit differs between two words.
-pub fn relights(old: u32, new: u32) -> bool
-    ensures { λ r. ⌜ r ≡ relit f3dex2 old new ⌝ }
+pub fn relights(f: Family, old: u32, new: u32) -> bool
+    ensures { λ r. ⌜ r ≡ relit f old new ⌝ }
 {
-    crate::judge::has_flag(0x20000, old) != crate::judge::has_flag(0x20000, new)
+    crate::geometry::is_lit(f, old) != crate::geometry::is_lit(f, new)
 }

@@ -4,7 +4,7 @@ use Prim.Native.Nat.{ℕ, zero, suc, _+_, _≤_, _<_}
 use native.Mathlib.Nat.{le-of-suc-le-suc, not-suc-le-zero, eq-or-lt-of-le}
 use native.Mathlib.Numerals.{add-one, towards-suc}
 use native.Mathlib.Omega.{arith}
-use mathlib.Core.Bool.{Bool, true, false, cond, or-true, false≢true}
+use mathlib.Core.Bool.{Bool, true, false, or-true, false≢true}
 use mathlib.Core.Logic.{_⊎_, ⊎-elim}
 use mathlib.Core.Path.{_≡_, refl, sym, _∙_}
 use mathlib.Core.List.{List, [], _∷_, _++_}
@@ -12,6 +12,7 @@ use lib.IntN.{ℤ}
 use lib.Ieee.{Float, nan}
 use lib.ListN.{length, getD, length-append, List·getD-append}
 use lib.Seq.{getD-at, drop-cons, take-all}
+use Rattle.numbers.specs.Choice.{pick}
 use Rattle.areas.specs.Area.{part, matches, eqbℤ, Wide}
 use Rattle.areas.proofs.Tables.{wide-append, matches-nan}
 use Rattle.matrix.specs.Math
@@ -35,12 +36,12 @@ pub record First (es : List (List ℤ)) (e : List ℤ) (p : ℕ) : Type 0 where
 
 -- the place that is found is the first
 pub find-first : (es : List (List ℤ)) (e : List ℤ) → First es e (find es e)
-unfolding find
+unfolding find pick
 find-first [] e =
     record { within = omega arith; before = λ k h. absurd (not-suc-le-zero h); here = λ h. absurd (not-suc-le-zero h) }
 find-first (x ∷ es) e = by (matches eqbℤ x e) refl (find es e) (find-first es e)
   where
-    by : (b : Bool) → matches eqbℤ x e ≡ b → (p : ℕ) → First es e p → First (x ∷ es) e (cond b zero (suc p))
+    by : (b : Bool) → matches eqbℤ x e ≡ b → (p : ℕ) → First es e p → First (x ∷ es) e (pick b zero (suc p))
     by true q p f = record { within = omega arith; before = λ k h. absurd (not-suc-le-zero h); here = λ h. q }
     by false q p f = record { within = omega (arith, f .within); before = passed; here = λ h. f .here (le-of-suc-le-suc h) }
       where

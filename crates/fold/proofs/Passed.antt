@@ -9,6 +9,7 @@ use mathlib.Core.List.{List, [], _∷_}
 use lib.IntN.{ℤ}
 use lib.ListN.{length, drop, drop-of-length-le}
 use lib.Seq.{drop-cons}
+use Rattle.numbers.specs.Choice.{pick}
 use Rattle.areas.specs.Area.{entries, part, matches, eqbℤ}
 use Rattle.areas.proofs.Tables.{length-entries, entry-is}
 use Rattle.fold.specs.Fog.{find}
@@ -23,12 +24,12 @@ passed-none {w} {n} {l} {e} = record { left = sym (zero-add (find (entries w n l
 
 -- where the first entry is equal, the place is 0
 find-now : (x : List ℤ) (es : List (List ℤ)) (e : List ℤ) → matches eqbℤ x e ≡ true → find (x ∷ es) e ≡ 0
-unfolding find
+unfolding find pick
 find-now x es e h = rw h
 
 -- where it is not, the place is one on from that among the rest
 find-later : (x : List ℤ) (es : List (List ℤ)) (e : List ℤ) → matches eqbℤ x e ≡ false → find (x ∷ es) e ≡ suc (find es e)
-unfolding find
+unfolding find pick
 find-later x es e h = rw h
 
 -- what is left of n entries begins with entry k

@@ -3,7 +3,8 @@
 ghost use mathlib.Core.Path.{_≡_};
 ghost use mathlib.Core.List.{[], _∷_};
 ghost use Prim.Native.Nat.{_≤_};
-ghost use Rattle.decide.specs.Append.{Put, putsIf};
+ghost use Rattle.decide.specs.Append.{onlyIf};
+ghost use Rattle.decide.specs.Steps.{Put, putBy};
 ghost use Rattle.fold.specs.Lights.{lightEntries};
 ghost use Rattle.fold.specs.Lookat.{lookatEntry};
 
@@ -18,7 +19,7 @@ pub fn lights_if(
     number: u32,
 ) -> u32
     requires { ⌜ (used ≤ 1048576) × (number ≤ 7) ⌝ }
-    ensures { λ r. ⌜ record { count = r; area = now (lights .exit) } ≡ putsIf due 6 used (lightEntries m directions colours ambient number) (now (lights .entry)) ⌝ }
+    ensures { λ r. ⌜ record { count = r; area = now (lights .exit) } ≡ putBy 6 used (onlyIf due (lightEntries m directions colours ambient number)) (now (lights .entry)) ⌝ }
 {
     if !due {
         return used;
@@ -29,7 +30,7 @@ pub fn lights_if(
 
 pub fn lookat_if(due: bool, lookats: &mut [f32], used: u32, m: [[f32; 4]; 4], axes: [f32; 6]) -> u32
     requires { ⌜ used ≤ 1048576 ⌝ }
-    ensures { λ r. ⌜ record { count = r; area = now (lookats .exit) } ≡ putsIf due 6 used (lookatEntry m axes ∷ []) (now (lookats .entry)) ⌝ }
+    ensures { λ r. ⌜ record { count = r; area = now (lookats .exit) } ≡ putBy 6 used (onlyIf due (lookatEntry m axes ∷ [])) (now (lookats .entry)) ⌝ }
 {
     if !due {
         return used;
