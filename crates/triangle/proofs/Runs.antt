@@ -8,18 +8,20 @@ use lib.Dec.{eqb, leb}
 use borrow.Author.Tests.{leb-true, not-true, not-false}
 use lib.ListN.{length, getD, set, take}
 use lib.Seq.{drop-cons, take-all}
+use Rattle.numbers.specs.Choice.{pick}
 use Rattle.areas.specs.Area.{part, put, matches}
+use Rattle.areas.specs.Widths.{runWidth, settingsWide}
 use Rattle.triangle.specs.declared.run.Last.{Last}
-use Rattle.triangle.specs.Run.{seen, none, lastOf}
+use Rattle.triangle.specs.Steps.{seen, none, lastOf}
 
 -- the next number of a part
 pub part-next : (l : List ℕ) (at k n : ℕ) → at < length l → suc at ≡ k → part l at (suc n) ≡ getD l at 0 ∷ part l k n
 part-next l at k n h e = rw (drop-cons l at 0 h, e)
 
 -- the six numbers at a place are these just where each is
-pub six-match : (l : List ℕ) (at a b c d e f : ℕ) → at + 8 ≤ length l
+pub six-match : (l : List ℕ) (at a b c d e f : ℕ) → at + runWidth ≤ length l
     → eqb (getD l at 0) a && eqb (getD l (at + 1) 0) b && eqb (getD l (at + 2) 0) c && eqb (getD l (at + 3) 0) d && eqb (getD l (at + 4) 0) e && eqb (getD l (at + 5) 0) f
-    ≡ matches eqb (part l at 6) (a ∷ b ∷ c ∷ d ∷ e ∷ f ∷ [])
+    ≡ matches eqb (part l at settingsWide) (a ∷ b ∷ c ∷ d ∷ e ∷ f ∷ [])
 unfolding matches
 six-match l at a b c d e f h =
     rw (
@@ -68,18 +70,18 @@ put-eight l at a b c d e f g h =
     )
 
 -- the last of some runs that the area holds
-pub some-run : (n len : ℕ) → leb 1 n && leb n (len / 8) ≡ true → (1 ≤ n) × (n ≤ len / 8)
-some-run n len e = let both = and-eq-true-iff (leb 1 n) (leb n (len / 8)) .0 e in (leb-true 1 n (both .0), leb-true n (len / 8) (both .1))
+pub some-run : (n len : ℕ) → leb 1 n && leb n (len / runWidth) ≡ true → (1 ≤ n) × (n ≤ len / runWidth)
+some-run n len e = let both = and-eq-true-iff (leb 1 n) (leb n (len / runWidth)) .0 e in (leb-true 1 n (both .0), leb-true n (len / runWidth) (both .1))
 
 -- lies in it
-pub last-fits : (n len p : ℕ) → leb 1 n && leb n (len / 8) ≡ true → p ≡ (n - 1) * 8 → p + 8 ≤ len
+pub last-fits : (n len p : ℕ) → leb 1 n && leb n (len / runWidth) ≡ true → p ≡ (n - 1) * runWidth → p + runWidth ≤ len
 last-fits n len p e at = omega (arith, some-run n len e)
 
 -- the last run as the code finds it
-pub last-none : (n : ℕ) (l q : List ℕ) → not (leb 1 n && leb n (length l / 8)) ≡ true → none ≡ lastOf n l q
-unfolding lastOf
-last-none n l q e = rw (not-true (leb 1 n && leb n (length l / 8)) e)
+pub last-none : (n : ℕ) (l q : List ℕ) → not (leb 1 n && leb n (length l / runWidth)) ≡ true → none ≡ lastOf n l q
+unfolding lastOf pick
+last-none n l q e = rw (not-true (leb 1 n && leb n (length l / runWidth)) e)
 
-pub last-some : (n p : ℕ) (l q : List ℕ) (r : Last) → not (leb 1 n && leb n (length l / 8)) ≡ false → p ≡ (n - 1) * 8 → r ≡ seen l p q → r ≡ lastOf n l q
-unfolding lastOf
-last-some n p l q r e at s = s ∙ rw (at, not-false (leb 1 n && leb n (length l / 8)) e)
+pub last-some : (n p : ℕ) (l q : List ℕ) (r : Last) → not (leb 1 n && leb n (length l / runWidth)) ≡ false → p ≡ (n - 1) * runWidth → r ≡ seen l p q → r ≡ lastOf n l q
+unfolding lastOf pick
+last-some n p l q r e at s = s ∙ rw (at, not-false (leb 1 n && leb n (length l / runWidth)) e)

@@ -1,3 +1,3 @@
 pub mod Run
 pub mod Slot
-pub mod Verdict
+pub mod Steps

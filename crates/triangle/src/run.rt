@@ -4,7 +4,9 @@ ghost use Prim.Native.Nat.{_+_, _≤_};
 ghost use lib.Dec.{eqb};
 ghost use lib.ListN.{length};
 ghost use Rattle.areas.specs.Area.{part, put, matches};
-ghost use Rattle.triangle.specs.Run.{six, settings, runOf, seen, lastOf};
+ghost use Rattle.areas.specs.Widths.{runWidth, settingsWide};
+ghost use Rattle.triangle.specs.Run.{settings, runOf};
+ghost use Rattle.triangle.specs.Steps.{six, seen, lastOf};
 
 // Cull and unclipped are 0 or 1.
 pub struct Settings {
@@ -41,8 +43,8 @@ pub fn settings_of(asked: [u32; 4], cull: bool, microcode: u8) -> Settings
 
 // Whether the run at a place has these settings. Asks for the whole run there, as below.
 fn run_is(runs: &[u32], at: usize, q: Settings) -> bool
-    requires { ⌜ at + 8 ≤ length (now runs) ⌝ }
-    ensures { λ r. ⌜ r ≡ matches eqb (part (now (runs .entry)) at 6) (six q) ⌝ }
+    requires { ⌜ at + runWidth ≤ length (now runs) ⌝ }
+    ensures { λ r. ⌜ r ≡ matches eqb (part (now (runs .entry)) at settingsWide) (six q) ⌝ }
 {
     (runs[at] == q.material)
         & (runs[at + 1] == q.mode)
@@ -54,7 +56,7 @@ fn run_is(runs: &[u32], at: usize, q: Settings) -> bool
 
 // The run at a place, as a draw with these settings looks at it. Asks for the whole run there, which its caller has seen.
 pub fn run_at(runs: &[u32], at: usize, q: Settings) -> Last
-    requires { ⌜ at + 8 ≤ length (now runs) ⌝ }
+    requires { ⌜ at + runWidth ≤ length (now runs) ⌝ }
     ensures { λ r. ⌜ r ≡ seen (now (runs .entry)) at (six q) ⌝ }
 {
     Last {
@@ -82,7 +84,7 @@ pub fn last_run(runs: &[u32], used: u32, q: Settings) -> Last
 
 // A run written at a place. Asks for room, which a draw has judged before it writes: a test of each index would cost.
 pub fn put_run(runs: &mut [u32], at: usize, q: Settings, start: u32, count: u32)
-    requires { ⌜ at + 8 ≤ length (now runs) ⌝ }
+    requires { ⌜ at + runWidth ≤ length (now runs) ⌝ }
     ensures { λ _. ⌜ now (runs .exit) ≡ put (now (runs .entry)) at (runOf (six q) start count) ⌝ }
 {
     runs[at] = q.material;

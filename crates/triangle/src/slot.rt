@@ -1,11 +1,11 @@
 // Slots and the corners of a triangle, its sides, and a test's answer as a number.
 ghost use mathlib.Core.Path.{_≡_};
-ghost use mathlib.Core.Bool.{cond};
 ghost use Prim.Native.Nat.{_+_, _≤_};
 ghost use lib.ListN.{length};
 ghost use Rattle.areas.specs.Area.{put};
 ghost use Rattle.decide.specs.Family.{f3dex2};
-ghost use Rattle.triangle.specs.Slot.{bit, corners, cornerOf, sidesOf};
+ghost use Rattle.triangle.specs.Slot.{bit, corners};
+ghost use Rattle.triangle.specs.Steps.{cornerAt, sidesOf};
 
 // A corner of a triangle: its slot, whether that was ever loaded, and the slot's row.
 pub struct Corner {
@@ -21,13 +21,13 @@ pub struct Sides {
     pub swap: bool,
 }
 
-// The corner at a slot, of which the mark and the row are read at its number modulo 256.
-pub fn corner_at(slot: u32, mark: bool, row: u32) -> Corner
-    ensures { λ r. ⌜ r ≡ cornerOf 256 slot mark row ⌝ }
+// The corner at a slot, one of so many, of which the mark and the row are read at its number modulo so many.
+pub fn corner_at(slots: u32, slot: u32, mark: bool, row: u32) -> Corner
+    ensures { λ r. ⌜ r ≡ cornerAt slots slot mark row ⌝ }
 {
     Corner {
         slot: slot,
-        known: (slot < 256) & mark,
+        known: (slot < slots) & mark,
         row: row,
     }
 }
@@ -52,20 +52,13 @@ pub fn word_of(yes: bool) -> u32
     if yes { 1 } else { 0 }
 }
 
-// One of two numbers.
-fn either(first: bool, x: u32, y: u32) -> u32
-    ensures { λ r. ⌜ r ≡ cond first x y ⌝ }
-{
-    if first { x } else { y }
-}
-
 // The rows x, y, z from place `at` on, the first and the last exchanged where `swap` says so. Asks for room, which a
 // draw has judged before it writes: a test of each index would cost.
 pub fn put_corners(indices: &mut [u32], at: usize, swap: bool, x: u32, y: u32, z: u32)
     requires { ⌜ at + 3 ≤ length (now indices) ⌝ }
     ensures { λ _. ⌜ now (indices .exit) ≡ put (now (indices .entry)) at (corners swap x y z) ⌝ }
 {
-    indices[at] = either(swap, z, x);
+    indices[at] = decide::number::if_else(swap, z, x);
     indices[at + 1] = y;
-    indices[at + 2] = either(swap, x, z);
+    indices[at + 2] = decide::number::if_else(swap, x, z);
 }

@@ -4,7 +4,7 @@ ghost use mathlib.Core.Path.{_≡_};
 ghost use Prim.Native.Nat.{_+_};
 ghost use lib.Dec.{leb};
 ghost use Rattle.areas.specs.Area.{room};
-ghost use Rattle.triangle.specs.Verdict.{tablesOf, closes, judged, judgedSlots, judgedAreas, judgedLast};
+ghost use Rattle.triangle.specs.Steps.{drawTables, closes, drawJudged, drawSlots, drawAreas, drawLast};
 use crate::run::Last;
 use crate::slot::Corner;
 
@@ -31,7 +31,7 @@ pub struct Tables {
 
 // The tables of a draw.
 pub fn tables_of(rows: u32, indices: u32, runs: u32, indexlen: usize, runlen: usize) -> Tables
-    ensures { λ r. ⌜ r ≡ tablesOf rows indices runs indexlen runlen ⌝ }
+    ensures { λ r. ⌜ r ≡ drawTables rows indices runs indexlen runlen ⌝ }
 {
     Tables {
         rows: rows,
@@ -58,7 +58,7 @@ fn roomy(used: u32, more: u32, width: usize, len: usize) -> bool
 
 // The last run, and room for the triangle.
 fn judge_last(t: Tables, last: Last) -> Verdict
-    ensures { λ r. ⌜ r ≡ judgedLast t last ⌝ }
+    ensures { λ r. ⌜ r ≡ drawLast t last ⌝ }
 {
     let grows = last.used & last.same;
     let eight = roomy(t.indices, 3, 1, t.indexlen);
@@ -80,7 +80,7 @@ fn judge_last(t: Tables, last: Last) -> Verdict
 
 // The areas hold what is in use.
 fn judge_areas(t: Tables, last: Last) -> Verdict
-    ensures { λ r. ⌜ r ≡ judgedAreas t last ⌝ }
+    ensures { λ r. ⌜ r ≡ drawAreas t last ⌝ }
 {
     if !roomy(t.indices, 0, 1, t.indexlen) {
         return Verdict::Short(8);
@@ -93,7 +93,7 @@ fn judge_areas(t: Tables, last: Last) -> Verdict
 
 // The three slots were loaded, and have a row in use.
 fn judge_slots(a: Corner, b: Corner, c: Corner, t: Tables, last: Last) -> Verdict
-    ensures { λ r. ⌜ r ≡ judgedSlots a b c t last ⌝ }
+    ensures { λ r. ⌜ r ≡ drawSlots a b c t last ⌝ }
 {
     if !a.known {
         return Verdict::Never(a.slot);
@@ -120,7 +120,7 @@ pub fn judge(
     t: Tables,
     last: Last,
 ) -> Verdict
-    ensures { λ r. ⌜ r ≡ judged sound both a b c t last ⌝ }
+    ensures { λ r. ⌜ r ≡ drawJudged sound both a b c t last ⌝ }
 {
     if !sound {
         return Verdict::Unsound;

@@ -8,21 +8,22 @@ use mathlib.Core.List.{List, [], _∷_, _++_, map}
 use lib.ListN.{length, getD}
 use lib.Ieee.{Float}
 use Rattle.areas.specs.Area.{Wide}
+use Rattle.areas.specs.Widths.{floatWidth, wordWidth}
 use Rattle.matrix.specs.Math as math
 use Rattle.layout.specs.Layout.{vertexAt}
 use Rattle.layout.specs.declared.records.Vertex.{Vertex}
 use Rattle.vertex.specs.declared.Shared.{Shared}
-use Rattle.vertex.specs.Vertices.{floatsWide, wordsWide, floatsOf, wordsOf, verticesAt}
+use Rattle.vertex.specs.Vertices.{floatsOf, wordsOf, verticesAt}
 
 -- ---- a row
 
--- a row has 9 floats
-pub floats-size : (v : Vertex) → length (floatsOf v) ≡ floatsWide
+-- how many floats a row has
+pub floats-size : (v : Vertex) → length (floatsOf v) ≡ floatWidth
 unfolding floatsOf
 floats-size v = refl
 
--- a row has 10 words
-pub words-size : (e : Shared) (v : Vertex) → length (wordsOf e v) ≡ wordsWide
+-- how many words a row has
+pub words-size : (e : Shared) (v : Vertex) → length (wordsOf e v) ≡ wordWidth
 unfolding wordsOf
 words-size e v = refl
 

@@ -12,14 +12,6 @@ use Rattle.layout.specs.declared.records.Vertex.{Vertex}
 use Rattle.vertex.specs.declared.Shared.{Shared}
 use Rattle.vertex.specs.declared.Slot.{Slot}
 
--- how many f32 a row has
-abbrev pub floatsWide : ℕ
-floatsWide = 9
-
--- how many u32 a row has
-abbrev pub wordsWide : ℕ
-wordsWide = 10
-
 -- the f32 of a row: position x y z, s, t, four screen numbers
 unfoldable pub floatsOf : Vertex → List Float
 floatsOf v =

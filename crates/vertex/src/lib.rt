@@ -4,7 +4,8 @@ ghost use mathlib.Core.Path.{_≡_};
 ghost use Prim.Native.Nat.{_+_, _≤_};
 ghost use lib.ListN.{length};
 ghost use Rattle.areas.specs.Area.{put};
-ghost use Rattle.vertex.specs.Vertices.{floatsWide, wordsWide, floatsOf, wordsOf, slotOf};
+ghost use Rattle.areas.specs.Widths.{floatWidth, wordWidth};
+ghost use Rattle.vertex.specs.Vertices.{floatsOf, wordsOf, slotOf};
 use layout::records::Vertex;
 
 // How many numbers a row has in each of its two areas.
@@ -37,7 +38,7 @@ pub struct Slot {
 // The floats of the row of `v`, from place `at` on. Asks for their room, which is judged once for all rows of a load: a
 // test of each index would be paid at every number.
 pub fn store_floats(floats: &mut [f32], at: usize, v: Vertex)
-    requires { ⌜ at + floatsWide ≤ length (now floats) ⌝ }
+    requires { ⌜ at + floatWidth ≤ length (now floats) ⌝ }
     ensures { λ _. ⌜ now (floats .exit) ≡ put (now (floats .entry)) at (floatsOf v) ⌝ }
 {
     let pos = v.pos;
@@ -55,7 +56,7 @@ pub fn store_floats(floats: &mut [f32], at: usize, v: Vertex)
 
 // The same for the words.
 pub fn store_words(words: &mut [u32], at: usize, e: Shared, v: Vertex)
-    requires { ⌜ at + wordsWide ≤ length (now words) ⌝ }
+    requires { ⌜ at + wordWidth ≤ length (now words) ⌝ }
     ensures { λ _. ⌜ now (words .exit) ≡ put (now (words .entry)) at (wordsOf e v) ⌝ }
 {
     words[at] = 0;

@@ -9,31 +9,24 @@ use Rattle.matrix.proofs.clip.clip_code.Reads as clip-code-reads
 use Rattle.matrix.proofs.clip.screen_z.Reads as screen-z-reads
 use Rattle.matrix.proofs.math.mul_row_vec4.Reads as mul-row-vec4-reads
 
--- src/lib.rt:77:41
 array-read-t10 : tie.Need-array-read-t10
 array-read-t10 c = search needs
 
--- src/lib.rt:77:49
 array-read-t13 : tie.Need-array-read-t13
 array-read-t13 c = search needs
 
--- src/lib.rt:77:57
 array-read-t16 : tie.Need-array-read-t16
 array-read-t16 c = search needs
 
--- src/lib.rt:77:9
 mul-row-vec4-requires : tie.Need-mul-row-vec4-requires
 mul-row-vec4-requires c κs = search needs
 
--- src/lib.rt:78:9
 clip-code-requires : tie.Need-clip-code-requires
 clip-code-requires c κs = search needs
 
--- src/lib.rt:79:9
 screen-z-requires : tie.Need-screen-z-requires
 screen-z-requires c κs = search needs
 
--- src/lib.rt:73:1
 returns : tie.Need-returns
 unfolding slotOf slotAt clipOf
 returns c = rw (c .screen-z .ensures, c .before .clip-code .ensures, c .before .before .mul-row-vec4 .ensures, one32)

@@ -10,127 +10,96 @@ use Rattle.vertex.proofs.store_words.Tie as tie
 use Rattle.vertex.proofs.store_words.Reads as reads
 use Rattle.vertex.proofs.store_words.Lts as lts
 
--- src/lib.rt:60:5
 mul-words : tie.Need-mul-words
 mul-words c = search needs
 
--- src/lib.rt:60:5
 slice-write-words : tie.Need-slice-write-words
 slice-write-words c = search needs
 
--- src/lib.rt:61:11
 add-words : tie.Need-add-words
 add-words c = search needs
 
--- src/lib.rt:61:5
 mul-words-2 : tie.Need-mul-words-2
 mul-words-2 c = search needs
 
--- src/lib.rt:61:5
 slice-write-words-2 : tie.Need-slice-write-words-2
 slice-write-words-2 c = simp length-set (omega arith)
 
--- src/lib.rt:62:11
 add-words-2 : tie.Need-add-words-2
 add-words-2 c = search needs
 
--- src/lib.rt:62:5
 mul-words-3 : tie.Need-mul-words-3
 mul-words-3 c = search needs
 
--- src/lib.rt:62:5
 slice-write-words-3 : tie.Need-slice-write-words-3
 slice-write-words-3 c = simp length-set (omega arith)
 
--- src/lib.rt:63:11
 add-words-3 : tie.Need-add-words-3
 add-words-3 c = search needs
 
--- src/lib.rt:63:5
 mul-words-4 : tie.Need-mul-words-4
 mul-words-4 c = search needs
 
--- src/lib.rt:63:5
 slice-write-words-4 : tie.Need-slice-write-words-4
 slice-write-words-4 c = simp length-set (omega arith)
 
--- src/lib.rt:64:11
 add-words-4 : tie.Need-add-words-4
 add-words-4 c = search needs
 
--- src/lib.rt:64:5
 mul-words-5 : tie.Need-mul-words-5
 mul-words-5 c = search needs
 
--- src/lib.rt:64:5
 slice-write-words-5 : tie.Need-slice-write-words-5
 slice-write-words-5 c = simp length-set (omega arith)
 
--- src/lib.rt:65:11
 add-words-5 : tie.Need-add-words-5
 add-words-5 c = search needs
 
--- src/lib.rt:65:5
 mul-words-6 : tie.Need-mul-words-6
 mul-words-6 c = search needs
 
--- src/lib.rt:65:5
 slice-write-words-6 : tie.Need-slice-write-words-6
 slice-write-words-6 c = simp length-set (omega arith)
 
--- src/lib.rt:66:11
 add-words-6 : tie.Need-add-words-6
 add-words-6 c = search needs
 
--- src/lib.rt:66:5
 mul-words-7 : tie.Need-mul-words-7
 mul-words-7 c = search needs
 
--- src/lib.rt:66:5
 slice-write-words-7 : tie.Need-slice-write-words-7
 slice-write-words-7 c = simp length-set (omega arith)
 
--- src/lib.rt:67:11
 add-words-7 : tie.Need-add-words-7
 add-words-7 c = search needs
 
--- src/lib.rt:67:5
 mul-words-8 : tie.Need-mul-words-8
 mul-words-8 c = search needs
 
--- src/lib.rt:67:5
 slice-write-words-8 : tie.Need-slice-write-words-8
 slice-write-words-8 c = simp length-set (omega arith)
 
--- src/lib.rt:68:11
 add-words-8 : tie.Need-add-words-8
 add-words-8 c = search needs
 
--- src/lib.rt:68:5
 mul-words-9 : tie.Need-mul-words-9
 mul-words-9 c = search needs
 
--- src/lib.rt:68:5
 slice-write-words-9 : tie.Need-slice-write-words-9
 slice-write-words-9 c = simp length-set (omega arith)
 
--- src/lib.rt:69:11
 add-words-9 : tie.Need-add-words-9
 add-words-9 c = search needs
 
--- src/lib.rt:69:5
 mul-words-10 : tie.Need-mul-words-10
 mul-words-10 c = search needs
 
--- src/lib.rt:69:5
 slice-write-words-10 : tie.Need-slice-write-words-10
 slice-write-words-10 c = simp length-set (omega arith)
 
--- src/lib.rt:56:1
 same-length : tie.Need-same-length
 same-length c = simp length-set
 
--- src/lib.rt:56:1
 returns : tie.Need-returns
 unfolding put wordsOf
 returns c = simp (towards-suc, add-nine)

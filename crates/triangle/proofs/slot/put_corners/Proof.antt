@@ -5,8 +5,8 @@ use borrow.Author.Needs.{needs}
 use Rattle.triangle.proofs.slot.put_corners.Statement.{statement}
 use Rattle.triangle.proofs.slot.put_corners.Tie as tie
 
-either-requires : tie.Need-either-requires
-either-requires c κs = search needs
+if-else-requires : tie.Need-if-else-requires
+if-else-requires c κs = search needs
 
 mul-indices : tie.Need-mul-indices
 mul-indices c = search needs
@@ -23,8 +23,8 @@ mul-indices-2 c = search needs
 slice-write-indices-2 : tie.Need-slice-write-indices-2
 slice-write-indices-2 c = simp length-set (omega arith)
 
-either-requires-2 : tie.Need-either-requires-2
-either-requires-2 c κs = search needs
+if-else-requires-2 : tie.Need-if-else-requires-2
+if-else-requires-2 c κs = search needs
 
 add-indices-2 : tie.Need-add-indices-2
 add-indices-2 c = search needs
@@ -39,19 +39,19 @@ same-length : tie.Need-same-length
 same-length c = search needs
 
 returns : tie.Need-returns
-returns c = rw (c .either2 .ensures, c .before .either .ensures) (put-three _ _ _ _ _)
+returns c = rw (c .if-else2 .ensures, c .before .if-else .ensures) (put-three _ _ _ _ _)
 
 pub put-corners-spec : {M : Type 1} → statement M
 put-corners-spec =
     tie.close
     (tie.spec
-    either-requires
+    if-else-requires
     mul-indices
     slice-write-indices
     add-indices
     mul-indices-2
     slice-write-indices-2
-    either-requires-2
+    if-else-requires-2
     add-indices-2
     mul-indices-3
     slice-write-indices-3

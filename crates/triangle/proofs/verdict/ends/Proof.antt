@@ -1,4 +1,4 @@
-use Rattle.triangle.specs.Verdict.{closes}
+use Rattle.triangle.specs.Steps.{closes}
 use mathlib.Core.Path.{refl}
 use borrow.Author.Needs.{needs}
 use Rattle.triangle.proofs.verdict.ends.Statement.{statement}

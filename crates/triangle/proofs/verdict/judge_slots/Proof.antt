@@ -1,30 +1,30 @@
-use Rattle.triangle.specs.Verdict.{judgedSlots}
+use Rattle.triangle.specs.Steps.{drawSlots}
 use Rattle.triangle.proofs.Stages.{stages}
 use borrow.Author.Needs.{needs}
 use Rattle.triangle.proofs.verdict.judge_slots.Statement.{statement}
 use Rattle.triangle.proofs.verdict.judge_slots.Tie as tie
 
 returns : tie.Need-returns
-unfolding judgedSlots
+unfolding drawSlots
 returns c = search stages
 
 returns-2 : tie.Need-returns-2
-unfolding judgedSlots
+unfolding drawSlots
 returns-2 c = search stages
 
 returns-3 : tie.Need-returns-3
-unfolding judgedSlots
+unfolding drawSlots
 returns-3 c = search stages
 
 returns-4 : tie.Need-returns-4
-unfolding judgedSlots
+unfolding drawSlots
 returns-4 c = search stages
 
 judge-areas-requires : tie.Need-judge-areas-requires
 judge-areas-requires c κs = search needs
 
 returns-5 : tie.Need-returns-5
-unfolding judgedSlots
+unfolding drawSlots
 returns-5 c = search stages
 
 pub judge-slots-spec : {M : Type 1} → statement M
