@@ -5,7 +5,7 @@ use mathlib.Core.List.{List, [], _∷_}
 use lib.ListN.{length}
 use lib.Ieee.{Float}
 use Rattle.areas.specs.Area.{room}
-use Rattle.decide.specs.Append.{ended}
+use Rattle.decide.specs.Steps.{ended}
 use Rattle.decide.specs.declared.append.Append.{Append}
 use Rattle.decide.specs.declared.append.Append.the-variants.{Kept, Grew, Full}
 use Rattle.decide.proofs.Ends.{ended-kept, ended-grew, ended-full}

@@ -106,5 +106,5 @@ module _ (f : Family) (slots : ℕ) (s : State) (t u : Table (List ℕ)) (a b c 
         first = keeps (set (set d a true) b true) a c (keeps (set d a true) a b (getD-set-same d a true false la));
         second = keeps (set (set d a true) b true) b c (getD-set-same (set d a true) b true false lb);
         third = getD-set-same (set (set d a true) b true) c true false lc;
-        runs = run-count (sameRun (u .used) _) _ (s .counts .runs) _ _;
+        runs = run-count (sameRun 0 (u .used) _) _ (s .counts .runs) _ _;
       })

@@ -12,7 +12,8 @@ use Rattle.layout.specs.Layout.{vertexAt}
 use Rattle.layout.specs.declared.records.Vertex.{Vertex}
 use Rattle.vertex.specs.declared.Shared.{Shared}
 use Rattle.vertex.specs.declared.Slot.{Slot}
-use Rattle.vertex.specs.Vertices.{floatsWide, wordsWide, floatsOf, wordsOf, slotOf, verticesAt}
+use Rattle.areas.specs.Widths.{floatWidth, wordWidth}
+use Rattle.vertex.specs.Vertices.{floatsOf, wordsOf, slotOf, verticesAt}
 use Rattle.vertex.proofs.Believe.{floats-size, words-size, wide-map, length-vertices, vertices-snoc}
 use Rattle.stage.specs.declared.State.{State}
 use Rattle.stage.specs.Rows.{fillSlot, fillSlots}
@@ -59,8 +60,8 @@ module _ (s : State) (m : List (List Float)) (e : Shared) (first at : ℕ) (b : 
   pub laid-more : (i : ℕ) {s′ s″ : State} {f′ f″ : List Float} {w′ w″ : List ℕ} {v : Vertex} {q : Slot}
       → Laid i s′ f′ w′
       → v ≡ vertexAt b (at + 16 * i)
-      → f″ ≡ put f′ ((s .counts .rows + i) * floatsWide) (floatsOf v)
-      → w″ ≡ put w′ ((s .counts .rows + i) * wordsWide) (wordsOf e v)
+      → f″ ≡ put f′ ((s .counts .rows + i) * floatWidth) (floatsOf v)
+      → w″ ≡ put w′ ((s .counts .rows + i) * wordWidth) (wordsOf e v)
       → q ≡ slotOf m e v
       → s″ ≡ fillSlot s′ (first + i) (s .counts .rows + i) q
       → Laid (i + 1) s″ f″ w″
@@ -71,6 +72,6 @@ module _ (s : State) (m : List (List Float)) (e : Shared) (first at : ℕ) (b : 
       rw (vertices-snoc b at i, ← ev)
       (record {
         state = es ∙ rw (eq, h .state, fill-snoc s m e first n vs v, k);
-        floats = ef ∙ rw (h .floats, ← rows-snoc floatsOf floatsWide n floats-size vs v f, k);
-        words = ew ∙ rw (h .words, ← rows-snoc (wordsOf e) wordsWide n (words-size e) vs v w, k);
+        floats = ef ∙ rw (h .floats, ← rows-snoc floatsOf floatWidth n floats-size vs v f, k);
+        words = ew ∙ rw (h .words, ← rows-snoc (wordsOf e) wordWidth n (words-size e) vs v w, k);
       })

@@ -15,7 +15,7 @@ use Rattle.areas.specs.Area.{entries, room, write}
 use Rattle.areas.proofs.Tables.{length-entries, room-fits}
 use Rattle.matrix.specs.Math.{rows}
 use Rattle.layout.specs.declared.records.Vertex.{Vertex}
-use Rattle.decide.specs.Family.{f3dex2}
+use Rattle.decide.specs.Family.{familyOf}
 use Rattle.decide.specs.Judge.{Lent, firstShort}
 use Rattle.fold.specs.Lights.{lightEntries}
 use Rattle.fold.specs.Fog.{find}
@@ -32,9 +32,9 @@ use Rattle.stage.proofs.Answer.{the-type}
 use Rattle.stage.specs.declared.load.Settled.{Settled}
 use Rattle.stage.specs.declared.load.More.{More}
 use Rattle.stage.specs.declared.load.Rooms.{Rooms}
-use Rattle.stage.specs.Plan.{Edits, Plan, judge, more, pick, rowsOf, untouched, advance, Outcome, outcome, carry}
-use Rattle.stage.specs.Load.{settled, settledState, sharedBy, loadEdits, loadDone, loadPlan, onlyIf, vertexRow, LoadAreas, loadTables, loadLent, areasLoad, fogPair}
-use Rattle.stage.specs.Sound.{stateSound}
+use Rattle.stage.specs.Plan.{Edits, onlyIf, Plan, judge, more, pick, rowsOf, untouched, advance, Outcome, outcome, carry}
+use Rattle.stage.specs.Load.{settled, settledState, sharedBy, loadEdits, loadDone, loadPlan, vertexRow, LoadAreas, loadTables, loadLent, areasLoad, fogPair}
+use Rattle.stage.specs.Sound.{stateSound, limit}
 use Rattle.stage.specs.Rows.{fillSlots}
 use Rattle.stage.specs.With.{withCounts}
 use Rattle.stage.specs.Steps.{sixLent, roomsOf, moreBy, noMore, earlyAnswer, Ranged, TablesAre, RowsFit, RowsLaid}
@@ -97,7 +97,7 @@ fits-rows c d s m r count f w e g h =
     let b = room-fits 10 w (c .rows + count) (omega arith) in
     (a .1, a .0, b .0)
 
-ranged : (s : State) (d : Settled) (x y : List (List Float)) (n : ℕ) (l : List ℤ) → n ≡ s .counts .fogs → d ≡ settled f3dex2 s x y (entries 2 n l) → Ranges s → Ranged s d
+ranged : (s : State) (d : Settled) (x y : List (List Float)) (n : ℕ) (l : List ℤ) → n ≡ s .counts .fogs → d ≡ settled (familyOf (s .microcode)) s x y (entries 2 n l) → Ranges s → Ranged s d
 unfolding settled
 ranged s d x y n l g e r =
     record {
@@ -223,7 +223,7 @@ shortOf s r = firstShort (sixLent (s .counts) noMore r)
 pub record Sized (s : State) (l : LoadAreas) (first count at : ℕ) (bytes : List ℕ) (d : Settled) (full : ℕ) : Type 0 where
   pub roomed : Roomed s l first count at bytes
   pub fits : shortOf s (roomed .rooms) ≡ 0
-  pub is-settled : d ≡ settled f3dex2 s (entries 16 (s .counts .matrices) (l .matrices)) (entries 4 (s .counts .scales) (l .scales)) (entries 2 (s .counts .fogs) (l .fogs))
+  pub is-settled : d ≡ settled (familyOf (s .microcode)) s (entries 16 (s .counts .matrices) (l .matrices)) (entries 4 (s .counts .scales) (l .scales)) (entries 2 (s .counts .fogs) (l .fogs))
   pub more : More
   pub is-more : more ≡ moreBy d s count
   pub is-full : full ≡ firstShort (sixLent (s .counts) more (roomed .rooms))
@@ -231,7 +231,7 @@ pub record Sized (s : State) (l : LoadAreas) (first count at : ℕ) (bytes : Lis
 -- ---- the load's ways out, each by the tests that lead there
 module _ (s : State) (l : LoadAreas) (first count at : ℕ) (bytes : List ℕ) where
   abbrev load-plan : Plan
-  load-plan = loadPlan f3dex2 256 s (loadTables (s .counts) l) first count bytes at
+  load-plan = loadPlan (familyOf (s .microcode)) (limit s) s (loadTables (s .counts) l) first count bytes at
 
   way-state : stateSound s ≡ false → outcome (record { state = s; answer = BadState }) l ≡ carry areasLoad load-plan s l
   unfolding loadPlan

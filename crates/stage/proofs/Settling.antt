@@ -9,8 +9,9 @@ use lib.Dec.{ltb, eqb}
 use lib.Ieee.{Float, eq}
 use Rattle.areas.specs.Area.{matches}
 use Rattle.matrix.specs.Math.{laid}
-use Rattle.decide.specs.Append.{final, Put, putsIf}
-use Rattle.decide.specs.Family.{f3dex2, flag, lit, texgenMode}
+use Rattle.decide.specs.Append.{final, onlyIf}
+use Rattle.decide.specs.Steps.{Put, putBy}
+use Rattle.decide.specs.Family.{Family, lit, foggy, texgenMode}
 use Rattle.fold.specs.Decision.{refold}
 use Rattle.fold.specs.Fog.{find}
 use Rattle.fold.specs.Scales.{scaleEntry, sameScale}
@@ -19,12 +20,12 @@ use Rattle.stage.specs.declared.Lights.{Lights}
 use Rattle.stage.specs.declared.Lookat.{Lookat}
 use Rattle.stage.specs.Plan.{pick, counted, after}
 use Rattle.stage.specs.Matrices.{modelTop}
-use Rattle.stage.specs.Load.{combinedNow, fogPair, settled, onlyIf}
+use Rattle.stage.specs.Load.{combinedNow, fogPair, settled}
 use Rattle.stage.specs.With.{foldedLights, foldedLookat}
 
-module _ (s : State) (matrices scales : List (List Float)) (fogs : List (List ℤ)) (m e model : List Float) (last same light look lit? foggy : Bool) (texgen p n : ℕ) where
-  pub settled-is : m ≡ combinedNow s → e ≡ scaleEntry (s .texture .sc) (s .texture .tc) → model ≡ laid (modelTop s) → lit? ≡ lit f3dex2 (s .geometry)
-      → texgen ≡ texgenMode f3dex2 (s .geometry) → foggy ≡ flag 0x10000 (s .geometry) → p ≡ find fogs (fogPair s) → last ≡ matches eq (final matrices) m
+module _ (f : Family) (s : State) (matrices scales : List (List Float)) (fogs : List (List ℤ)) (m e model : List Float) (last same light look lit? foggy? : Bool) (texgen p n : ℕ) where
+  pub settled-is : m ≡ combinedNow s → e ≡ scaleEntry (s .texture .sc) (s .texture .tc) → model ≡ laid (modelTop s) → lit? ≡ lit f (s .geometry)
+      → texgen ≡ texgenMode f (s .geometry) → foggy? ≡ foggy f (s .geometry) → p ≡ find fogs (fogPair s) → last ≡ matches eq (final matrices) m
       → same ≡ sameScale scales e → light ≡ refold (s .lights .folded) (s .lights .changed) (s .lights .top) model
       → look ≡ refold (s .lookat .folded) (s .lookat .changed) (s .lookat .top) model → n ≡ length fogs
       → record {
@@ -37,12 +38,12 @@ module _ (s : State) (matrices scales : List (List Float)) (fogs : List (List �
         newlights = lit? && light;
         texgen = texgen;
         newlookat = not (eqb texgen 0) && look;
-        foggy = foggy;
+        foggy = foggy?;
         fogat = p;
-        newfog = foggy && not (ltb p n);
-      } ≡ settled f3dex2 s matrices scales fogs
+        newfog = foggy? && not (ltb p n);
+      } ≡ settled f s matrices scales fogs
   unfolding settled
-  settled-is a b c d f g h i j k l o = rw (i, j, k, l, o, h, a, b, c, d, f, g)
+  settled-is a b c d x g h i j k l o = rw (i, j, k, l, o, h, a, b, c, d, x, g)
 
 -- a count after entries that are appended where b says so
 pub counted-if : {E : Type 0} (b : Bool) (e : E) (n : ℕ) → pick b (n + 1) n ≡ counted (onlyIf b (e ∷ [])) n
@@ -51,13 +52,13 @@ counted-if true e n = refl
 counted-if false e n = refl
 
 -- count and area, as the plan has them
-pub put-count : {A : Type 0} (b : Bool) (w n c : ℕ) (es : List (List A)) (l a : List A) → record { count = c; area = a } ≡ putsIf b w n es l → c ≡ counted (onlyIf b es) n
-unfolding putsIf pick
+pub put-count : {A : Type 0} (b : Bool) (w n c : ℕ) (es : List (List A)) (l a : List A) → record { count = c; area = a } ≡ putBy w n (onlyIf b es) l → c ≡ counted (onlyIf b es) n
+unfolding pick
 put-count {A} true w n c es l a e = ap (λ (p : Put A). p .count) e
 put-count {A} false w n c es l a e = ap (λ (p : Put A). p .count) e
 
-pub put-area : {A : Type 0} (b : Bool) (w n c : ℕ) (es : List (List A)) (l a : List A) → record { count = c; area = a } ≡ putsIf b w n es l → a ≡ after w n (onlyIf b es) l
-unfolding putsIf pick
+pub put-area : {A : Type 0} (b : Bool) (w n c : ℕ) (es : List (List A)) (l a : List A) → record { count = c; area = a } ≡ putBy w n (onlyIf b es) l → a ≡ after w n (onlyIf b es) l
+unfolding pick
 put-area {A} true w n c es l a e = ap (λ (p : Put A). p .area) e
 put-area {A} false w n c es l a e = ap (λ (p : Put A). p .area) e
 

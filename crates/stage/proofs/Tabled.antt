@@ -5,7 +5,7 @@ use native.Mathlib.Nat.{lt-irrefl}
 use mathlib.Core.Bool.{Bool, true, false}
 use mathlib.Core.List.{List, [], _∷_}
 use borrow.Author.Tests.{leb-true}
-use Rattle.decide.specs.Judge.{Lent, fits, orElse, firstShort}
+use Rattle.decide.specs.Judge.{Lent, fits, firstShort}
 use Rattle.stage.specs.declared.State.{State}
 use Rattle.stage.specs.declared.Counts.{Counts}
 use Rattle.stage.specs.declared.Answer.{Answer}
@@ -22,8 +22,8 @@ abbrev byFirst : ℕ → ℕ → Plan → Plan
 byFirst n zero p = p
 byFirst n (suc k) p = refuse n (suc k ∷ [])
 
-one : (n k : ℕ) (b : Bool) (p q : Plan) (r : ℕ) → 0 < k → q ≡ byFirst n r p → unless b (refuse n (k ∷ [])) q ≡ byFirst n (orElse b k r) p
-unfolding orElse unless
+one : (n k : ℕ) (b : Bool) (p q : Plan) (r : ℕ) → 0 < k → q ≡ byFirst n r p → unless b (refuse n (k ∷ [])) q ≡ byFirst n (unless b k r) p
+unfolding unless
 one n zero b p q r h e = absurd (lt-irrefl 0 h)
 one n (suc k) true p q r h e = e
 one n (suc k) false p q r h e = refl
@@ -46,8 +46,8 @@ pub table-passed : {A : Type 0} (f : Counts → Edits → A → A) (s : State) (
 table-passed f s l n ts p o k g e z h = rw (judged n ts p g, ← e, z) h
 
 -- each table fits where none is named
-split : (b : Bool) (n r : ℕ) → 0 < n → orElse b n r ≡ 0 → (b ≡ true) × (r ≡ 0)
-unfolding orElse
+split : (b : Bool) (n r : ℕ) → 0 < n → unless b n r ≡ 0 → (b ≡ true) × (r ≡ 0)
+unfolding unless
 split true n r h e = (refl, e)
 split false n r h e = absurd (lt-irrefl 0 (subst (λ (k : ℕ). 0 < k) e h))
 

@@ -19,9 +19,9 @@ use Rattle.triangle.specs.declared.slot.Sides.{Sides}
 use Rattle.triangle.specs.declared.verdict.Tables.{Tables}
 use Rattle.triangle.specs.declared.verdict.Verdict.{Verdict}
 use Rattle.triangle.specs.declared.verdict.Verdict.the-variants.{Unsound, Nothing, Never, Short, Full, Record}
-use Rattle.triangle.specs.Run.{settings, six, runOf, closed, sameRun, lastOf}
-use Rattle.triangle.specs.Slot.{held, corners, both, culls, swaps, sidesOf, cornerOf}
-use Rattle.triangle.specs.Verdict.{unless as unless′, tablesOf, judgedLast, judgedAreas, judgedSlots, judged}
+use Rattle.triangle.specs.Run.{settings, runOf, closed, sameRun}
+use Rattle.triangle.specs.Slot.{held, corners, both, culls, swaps}
+use Rattle.triangle.specs.Steps.{six, lastOf, sidesOf, cornerAt, drawTables, drawLast, drawAreas, drawSlots, drawJudged}
 use Rattle.triangle.proofs.Lasts.{last-closes, last-same, run-grows}
 use Rattle.triangle.proofs.Recording.{Grown, Begun, Recorded, recorded, Rooms, rooms}
 use Rattle.triangle.proofs.Slots.{held-read, held-place, held-reads}
@@ -51,24 +51,25 @@ byVerdict s k (Record more start count) = k
 module _ (s : State) (k : Plan) where
   -- a test of the plan and the same test of the judge
   step : (b d : Bool) (v rest : Verdict) (n : ℕ) (vs : List ℕ) (p : Plan) → b ≡ d → byVerdict s k v ≡ refuse n vs → (d ≡ true → p ≡ byVerdict s k rest)
-      → unless b (refuse n vs) p ≡ byVerdict s k (unless′ d v rest)
-  unfolding unless unless′
+      → unless b (refuse n vs) p ≡ byVerdict s k (unless d v rest)
+  unfolding unless
   step b true v rest n vs p e r h = rw e (h refl)
   step b false v rest n vs p e r h = rw e (sym r)
 
   -- both sides culled
-  exit : (b : Bool) (rest : Verdict) (p : Plan) → p ≡ byVerdict s k rest → pick b (does [] s untouched) p ≡ byVerdict s k (cond b Nothing rest)
+  exit : (b : Bool) (rest : Verdict) (p : Plan) → p ≡ byVerdict s k rest → pick b (does [] s untouched) p ≡ byVerdict s k (pick b Nothing rest)
   unfolding pick
   exit true rest p h = refl
   exit false rest p h = h
 
   -- a triangle is recorded either way
-  either-way : (b : Bool) (x y z u v w : ℕ) → k ≡ byVerdict s k (cond b (Record x y z) (Record u v w))
+  either-way : (b : Bool) (x y z u v w : ℕ) → k ≡ byVerdict s k (pick b (Record x y z) (Record u v w))
+  unfolding pick
   either-way true x y z u v w = refl
   either-way false x y z u v w = refl
 
 -- what table 9 needs: nothing where the last run grows
-run-room : (g : Bool) (us : List (List ℕ)) (n w r : ℕ) (q : List ℕ) → sameRun us q ≡ g → leb (w + 0) r ≡ true → leb (w + more (runEdit us n q)) r ≡ g || leb (w + 1) r
+run-room : (g : Bool) (us : List (List ℕ)) (n w r : ℕ) (q : List ℕ) → sameRun 0 us q ≡ g → leb (w + 0) r ≡ true → leb (w + more (runEdit us n q)) r ≡ g || leb (w + 1) r
 unfolding runEdit pick
 run-room true us n w r q e h = rw e h
 run-room false us n w r q e h = rw e
@@ -77,10 +78,10 @@ run-room false us n w r q e h = rw e
 -- are its settings
 module _ (s : State) (k : Plan) (l m : List ℕ) (n w rows : ℕ) (q : List ℕ) (long : length q ≡ 6) where
   room-plan : (es : List (List ℕ)) → length es ≡ 3 → w ≤ room 8 (length m)
-      → unless (closed (entries 8 w m) (length (entries 1 n l))) (refuse 10 [])
+      → unless (closed 0 (entries 8 w m) (length (entries 1 n l))) (refuse 10 [])
       (judge 9 (lent 8 (table 1 n l) (grow es) ∷ lent 9 (table 8 w m) (runEdit (entries 8 w m) (length (entries 1 n l)) q) ∷ []) k)
-      ≡ byVerdict s k (judgedLast (tablesOf rows n w (length l) (length m)) (lastOf w m q))
-  unfolding judgedLast
+      ≡ byVerdict s k (drawLast (drawTables rows n w (length l) (length m)) (lastOf w m q))
+  unfolding drawLast
   room-plan es three r =
       step s k _ _ _ _ _ _ _ (rw (length-entries 1 n l) (sym (last-closes w m q n r))) refl
       (λ _. step s k _ _ _ _ _ _ _ (rw (length-entries 1 n l, three)) refl
@@ -89,10 +90,10 @@ module _ (s : State) (k : Plan) (l m : List ℕ) (n w rows : ℕ) (q : List ℕ)
 
   areas-plan : (es : List (List ℕ)) → length es ≡ 3
       → judge 8 (lent 8 (table 1 n l) keep ∷ lent 9 (table 8 w m) keep ∷ [])
-      (unless (closed (entries 8 w m) (length (entries 1 n l))) (refuse 10 [])
+      (unless (closed 0 (entries 8 w m) (length (entries 1 n l))) (refuse 10 [])
       (judge 9 (lent 8 (table 1 n l) (grow es) ∷ lent 9 (table 8 w m) (runEdit (entries 8 w m) (length (entries 1 n l)) q) ∷ []) k))
-      ≡ byVerdict s k (judgedAreas (tablesOf rows n w (length l) (length m)) (lastOf w m q))
-  unfolding judgedAreas
+      ≡ byVerdict s k (drawAreas (drawTables rows n w (length l) (length m)) (lastOf w m q))
+  unfolding drawAreas
   areas-plan es three =
       step s k _ _ _ _ _ _ _ (rw (length-entries 1 n l)) refl
       (λ _. step s k _ _ _ _ _ _ _ (rw (length-entries 8 w m)) refl
@@ -119,11 +120,11 @@ module _ (f : Family) (slots : ℕ) (s : State) (l m : List ℕ) (a b c : ℕ) (
   -- the verdict
   unfoldable pub verdict : Verdict
   verdict =
-      judged (stateSound s) (both f (s .geometry))
+      drawJudged (stateSound s) (both f (s .geometry))
       (record { slot = a; known = held slots (s .ever) a; row = x })
       (record { slot = b; known = held slots (s .ever) b; row = y })
       (record { slot = c; known = held slots (s .ever) c; row = z })
-      (tablesOf (s .counts .rows) (s .counts .indices) (s .counts .runs) (length l) (length m))
+      (drawTables (s .counts .rows) (s .counts .indices) (s .counts .runs) (length l) (length m))
       (lastOf (s .counts .runs) m asks)
 
   pub plan-is : length asks ≡ 6
@@ -131,7 +132,7 @@ module _ (f : Family) (slots : ℕ) (s : State) (l m : List ℕ) (a b c : ℕ) (
       → (held slots (s .ever) b ≡ true → y ≡ rowOf s b)
       → (held slots (s .ever) c ≡ true → z ≡ rowOf s c)
       → drawPlan f slots s (table 1 (s .counts .indices) l) (table 8 (s .counts .runs) m) a b c asked ≡ byVerdict s recording verdict
-  unfolding drawPlan verdict judged judgedSlots
+  unfolding drawPlan verdict drawJudged drawSlots
   plan-is long rx ry rz =
       step s recording _ _ _ _ _ _ _ refl refl
       (λ _. exit s recording _ _ _
@@ -144,14 +145,14 @@ module _ (f : Family) (slots : ℕ) (s : State) (l m : List ℕ) (a b c : ℕ) (
   -- the verdict as the code finds it, from what it reads at each slot's number modulo the number of slots
   pub verdict-is : (sd : Sides) (p q r : Corner) (t : Tables) (set : Settings) (d : Last) (ok : Bool) (v : Verdict)
       → sd ≡ sidesOf f (s .geometry)
-      → p ≡ cornerOf slots a (getD (s .ever) (a % slots) false) x
-      → q ≡ cornerOf slots b (getD (s .ever) (b % slots) false) y
-      → r ≡ cornerOf slots c (getD (s .ever) (c % slots) false) z
-      → t ≡ tablesOf (s .counts .rows) (s .counts .indices) (s .counts .runs) (length l) (length m)
+      → p ≡ cornerAt slots a (getD (s .ever) (a % slots) false) x
+      → q ≡ cornerAt slots b (getD (s .ever) (b % slots) false) y
+      → r ≡ cornerAt slots c (getD (s .ever) (c % slots) false) z
+      → t ≡ drawTables (s .counts .rows) (s .counts .indices) (s .counts .runs) (length l) (length m)
       → six set ≡ settings asked (sd .cull) (s .microcode)
       → d ≡ lastOf (s .counts .runs) m (six set)
       → ok ≡ stateSound s
-      → v ≡ judged ok (sd .both) p q r t d
+      → v ≡ drawJudged ok (sd .both) p q r t d
       → v ≡ verdict
   unfolding verdict
   verdict-is sd p q r t set d ok v esd ep eq er et eset ed eok ev =
@@ -164,7 +165,7 @@ module _ (f : Family) (slots : ℕ) (s : State) (l m : List ℕ) (a b c : ℕ) (
       (record { slot = a; known = held slots (s .ever) a; row = x })
       (record { slot = b; known = held slots (s .ever) b; row = y })
       (record { slot = c; known = held slots (s .ever) c; row = z })
-      (tablesOf (s .counts .rows) (s .counts .indices) (s .counts .runs) (length l) (length m))
+      (drawTables (s .counts .rows) (s .counts .indices) (s .counts .runs) (length l) (length m))
       (lastOf (s .counts .runs) m asks)
       more start count
 
@@ -193,11 +194,11 @@ unfolding runEdit pick
 run-effect w n x y z m q t long r at how =
     ⊎-elim
     (λ g.
-    let same : sameRun (entries 8 w m) q ≡ true = sym (last-same w m q long r) ∙ g .grows in
+    let same : sameRun 0 (entries 8 w m) q ≡ true = sym (last-same w m q long r) ∙ g .grows in
     let p : w - 1 ≡ w + 0 - 1 = omega arith in
     (rw (same, g .none) (sym (add-zero w)), rw (same, g .none, g .begins, g .counts, ← p) (run-grows w m q long r (g .grows))))
     (λ g.
-    let same : sameRun (entries 8 w m) q ≡ false = sym (last-same w m q long r) ∙ g .other in
+    let same : sameRun 0 (entries 8 w m) q ≡ false = sym (last-same w m q long r) ∙ g .other in
     let p : w ≡ w + 1 - 1 = omega arith in
     (rw (same, g .one), rw (same, g .one, g .begins, g .counts, at, ← p) (write-one 8 w (runOf q n 3) m)))
     how

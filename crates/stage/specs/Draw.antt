@@ -8,7 +8,7 @@ use lib.Dec.{eqb, leb, ltb}
 use lib.IntN.{pos}
 use lib.Ieee.{nan, le, binary64}
 use Rattle.decide.specs.Append.{final}
-use Rattle.decide.specs.Family.{Family, f3dex2}
+use Rattle.decide.specs.Family.{Family, familyOf}
 use Rattle.numbers.specs.Ratio.{ofRatio}
 use Rattle.triangle.specs.Run.{settings, runOf, longer, closed, sameRun}
 use Rattle.triangle.specs.Slot.{bit, held, corners, both, culls, swaps}
@@ -107,7 +107,7 @@ triangle f s a b c = map (λ (r : ℕ). r ∷ []) (corners (swaps f (s .geometry
 
 -- what table 9 gets: the last run grows by 3 if its six settings match, else a run is appended, of 3 from index n on
 unfoldable pub runEdit : List (List ℕ) → ℕ → List ℕ → Edit (List ℕ)
-runEdit us n q = pick (sameRun us q) (patch (length us - 1) (longer (final us))) (grow (runOf q n 3 ∷ []))
+runEdit us n q = pick (sameRun 0 us q) (patch (length us - 1) (longer 0 (final us))) (grow (runOf q n 3 ∷ []))
 
 -- Draw: slots a, b, c, and the caller's material, render mode, fog colour and primitive depth
 unfoldable pub drawPlan : Family → ℕ → State → Table (List ℕ) → Table (List ℕ) → ℕ → ℕ → ℕ → List ℕ → Plan
@@ -119,10 +119,10 @@ drawPlan f slots s t u a b c asked =
     (judgeEver slots s (a ∷ b ∷ c ∷ [])
     (unless (placed s (a ∷ b ∷ c ∷ [])) (refuse 10 [])
     (judge 8 (lent 8 t keep ∷ lent 9 u keep ∷ [])
-    (unless (closed (u .used) (length (t .used))) (refuse 10 [])
+    (unless (closed 0 (u .used) (length (t .used))) (refuse 10 [])
     (judge 9 (lent 8 t e ∷ lent 9 u r ∷ [])
     (does [] (withDrawn s (mark (s .drawn) (a ∷ b ∷ c ∷ []))) (edits89 e r))))))))
 
 -- what a draw comes to, for any state and areas
 abbrev pub drawMeans : State → ℕ → ℕ → ℕ → List ℕ → List ℕ × List ℕ → Outcome (List ℕ × List ℕ)
-drawMeans s a b c asked l = carry areas89 (drawPlan f3dex2 (limit s) s (tableIn indexArea (s .counts) (l .0)) (tableIn runArea (s .counts) (l .1)) a b c asked) s l
+drawMeans s a b c asked l = carry areas89 (drawPlan (familyOf (s .microcode)) (limit s) s (tableIn indexArea (s .counts) (l .0)) (tableIn runArea (s .counts) (l .1)) a b c asked) s l

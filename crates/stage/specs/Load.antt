@@ -11,7 +11,7 @@ use Rattle.matrix.specs.Math.{at, rows, laid}
 use Rattle.layout.specs.declared.records.Vertex.{Vertex}
 use Rattle.decide.specs.Append.{final}
 use Rattle.decide.specs.Judge.{Lent}
-use Rattle.decide.specs.Family.{Family, f3dex2, flag, lit, texgenMode}
+use Rattle.decide.specs.Family.{Family, familyOf, lit, foggy, texgenMode}
 use Rattle.fold.specs.Decision.{refold}
 use Rattle.fold.specs.Fog.{find}
 use Rattle.fold.specs.Lights.{lightEntries}
@@ -24,7 +24,7 @@ use Rattle.stage.specs.declared.Counts.{Counts}
 use Rattle.stage.specs.declared.Lights.{Lights}
 use Rattle.stage.specs.declared.Lookat.{Lookat}
 use Rattle.stage.specs.declared.load.Settled.{Settled}
-use Rattle.stage.specs.Plan.{Table, Edit, keep, grow, Row, Edits, Plan, refuse, unless, pick, does, lent, judge, needs, counted, untouched, undrawn, rowTable, matrixArea, scaleArea, lightArea, lookatArea, fogArea, floatArea, wordArea, tableIn, afterIn, Outcome, carry}
+use Rattle.stage.specs.Plan.{Table, Edit, onlyIf, keep, grow, Row, Edits, Plan, refuse, unless, pick, does, lent, judge, needs, counted, untouched, undrawn, rowTable, matrixArea, scaleArea, lightArea, lookatArea, fogArea, floatArea, wordArea, tableIn, afterIn, Outcome, carry}
 use Rattle.stage.specs.Sound.{sound, limit}
 use Rattle.stage.specs.Matrices.{modelTop, product}
 use Rattle.stage.specs.Rows.{fillSlots}
@@ -65,14 +65,10 @@ settled f s matrices scales fogs =
       newlights = lit f (s .geometry) && refold (s .lights .folded) (s .lights .changed) (s .lights .top) (laid (modelTop s));
       texgen = texgenMode f (s .geometry);
       newlookat = not (eqb (texgenMode f (s .geometry)) 0) && refold (s .lookat .folded) (s .lookat .changed) (s .lookat .top) (laid (modelTop s));
-      foggy = flag (f .fog) (s .geometry);
+      foggy = foggy f (s .geometry);
       fogat = p;
-      newfog = flag (f .fog) (s .geometry) && not (ltb p (length fogs));
+      newfog = foggy f (s .geometry) && not (ltb p (length fogs));
     }
-
--- entries appended where b says so
-abbrev pub onlyIf : {E : Type 0} → Bool → List E → Edit E
-onlyIf b es = pick b (grow es) keep
 
 -- the lights, and the lookat axes, then: folded with the model top, as the next entry, or as they were
 abbrev pub lightsThen : Settled → State → Lights
@@ -182,4 +178,4 @@ loadTables c l =
 
 -- what a load comes to, for any state and areas
 abbrev pub loadMeans : State → ℕ → ℕ → List ℕ → ℕ → LoadAreas → Outcome LoadAreas
-loadMeans s first count bytes at l = carry areasLoad (loadPlan f3dex2 (limit s) s (loadTables (s .counts) l) first count bytes at) s l
+loadMeans s first count bytes at l = carry areasLoad (loadPlan (familyOf (s .microcode)) (limit s) s (loadTables (s .counts) l) first count bytes at) s l

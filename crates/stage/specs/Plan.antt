@@ -6,11 +6,12 @@ use mathlib.Core.List.{List, [], _∷_, map}
 use lib.ListN.{length}
 use lib.IntN.{ℤ}
 use lib.Dec.{leb}
-use lib.Ieee.{Float, eq}
-use Rattle.areas.specs.Area.{entries, room, matches}
+use lib.Ieee.{Float}
+use Rattle.areas.specs.Area.{entries, room}
 use Rattle.areas.specs.Widths.{matrixWidth, viewportWidth, scaleWidth, lightWidth, lookatWidth, fogWidth, floatWidth, wordWidth, indexWidth, runWidth}
 pub use Rattle.areas.specs.Table.{Table, table, Edit, keep, grow, patch, more, counted, after}
-use Rattle.decide.specs.Append.{final}
+pub use Rattle.decide.specs.Append.{onlyIf}
+unfoldable pub use Rattle.decide.specs.Append.{appended}
 use Rattle.decide.specs.Judge.{Lent, fits}
 unfoldable pub use Rattle.numbers.specs.Choice.{pick, unless}
 use Rattle.stage.specs.declared.State.{State}
@@ -136,11 +137,7 @@ abbrev pub judge : ℕ → List Lent → Plan → Plan
 judge n [] p = p
 judge n (t ∷ ts) p = unless (fits t) (refuse n (t .number ∷ [])) (judge n ts p)
 
--- the entry e appended, unless the last entry compares equal to it: zeros of either sign are equal, a NaN never is
-unfoldable pub appended : Table (List Float) → List Float → Edit (List Float)
-appended t e = pick (matches eq (final (t .used)) e) keep (grow (e ∷ []))
-
--- table k gets the entry so, or refusal 9; p is what is planned with that edit
+-- table k gets the entry unless the last one compares equal to it, or refusal 9; p is what is planned with that edit
 unfoldable pub appending : ℕ → Table (List Float) → List Float → (Edit (List Float) → Plan) → Plan
 appending k t e p = judge 9 (lent k t (appended t e) ∷ []) (p (appended t e))
 

@@ -126,19 +126,20 @@ impl State {
     ) -> Answered
         ensures { λ r. ⌜ outcome r (now (indices .exit), now (runs .exit)) ≡ drawMeans self a b c (material ∷ «render_mode» ∷ «fog_colour» ∷ «prim_depth» ∷ []) (now (indices .entry), now (runs .entry)) ⌝ }
     {
+        let family = decide::family::family_of(self.microcode);
         let row = self.row;
         let ever = self.ever;
         let mut drawn = self.drawn;
         let i = (a % 256) as usize;
         let j = (b % 256) as usize;
         let k = (c % 256) as usize;
-        let p = slot::corner_at(a, ever[i], row[i]);
-        let q = slot::corner_at(b, ever[j], row[j]);
-        let s = slot::corner_at(c, ever[k], row[k]);
+        let p = slot::corner_at(256, a, ever[i], row[i]);
+        let q = slot::corner_at(256, b, ever[j], row[j]);
+        let s = slot::corner_at(256, c, ever[k], row[k]);
         let n = self.counts.indices;
         let m = self.counts.runs;
         let t = verdict::tables_of(self.counts.rows, n, m, indices.len(), runs.len());
-        let sides = slot::sides_of(self.geometry);
+        let sides = slot::sides_of(family, self.geometry);
         let asked = [material, render_mode, fog_colour, prim_depth];
         let set = run::settings_of(asked, sides.cull, self.microcode);
         let last = run::last_run(runs, m, set);

@@ -4,7 +4,7 @@ ghost use mathlib.Core.List.{[]};
 ghost use Prim.Native.Nat.{_+_, _*_, _≤_, min};
 ghost use lib.ListN.{length};
 ghost use Rattle.areas.specs.Area.{entries, room};
-ghost use Rattle.decide.specs.Family.{f3dex2};
+ghost use Rattle.decide.specs.Family.{familyOf};
 ghost use Rattle.decide.specs.Judge.{firstShort};
 ghost use Rattle.stage.specs.Plan.{outcome, pick};
 ghost use Rattle.stage.specs.With.{foldedLights, foldedLookat};
@@ -182,15 +182,16 @@ impl State {
     // The decisions of a load, each once. Asks for what has been judged by then.
     fn settled_by(self, matrices: &[f32], scales: &[f32], fogs: &[i16]) -> Settled
         requires { ⌜ (1 ≤ self .depth) × (self .depth ≤ 32) ⌝ }
-        ensures { λ r. ⌜ r ≡ settled f3dex2 self (entries 16 (self .counts .matrices) (now (matrices .entry))) (entries 4 (self .counts .scales) (now (scales .entry))) (entries 2 (self .counts .fogs) (now (fogs .entry))) ⌝ }
+        ensures { λ r. ⌜ r ≡ settled (familyOf (self .microcode)) self (entries 16 (self .counts .matrices) (now (matrices .entry))) (entries 4 (self .counts .scales) (now (scales .entry))) (entries 2 (self .counts .fogs) (now (fogs .entry))) ⌝ }
     {
+        let family = decide::family::family_of(self.microcode);
         let stack = self.stack;
         let model = matrix::math::to_flat(decide::stack::top_of(stack, self.depth));
         let combined = self.combined_now();
         let entry = fold::scales::scales_of(self.texture.sc, self.texture.tc);
-        let lit = decide::geometry::is_lit(self.geometry);
-        let texgen = decide::geometry::texgen_mode(self.geometry);
-        let foggy = decide::judge::has_flag(0x10000, self.geometry);
+        let lit = decide::geometry::is_lit(family, self.geometry);
+        let texgen = decide::geometry::texgen_mode(family, self.geometry);
+        let foggy = decide::geometry::is_foggy(family, self.geometry);
         let place = fold::fog::fog_place(fogs, self.counts.fogs, self.fogmul, self.fogoff);
         let matrix = !self.defined
             & !decide::append::last_is(matrices, 16, self.counts.matrices, &combined);

@@ -5,7 +5,7 @@ ghost use lib.ListN.{length};
 ghost use mathlib.Core.Bool.{false};
 ghost use lib.Dec.{leb};
 ghost use Rattle.areas.specs.Area.{room};
-ghost use Rattle.decide.specs.Family.{f3dex2};
+ghost use Rattle.decide.specs.Family.{familyOf};
 ghost use Rattle.stage.specs.Plan.{outcome, carry, nothing, matrixArea, viewportArea, tableIn};
 ghost use Rattle.stage.specs.Sound.{all, countTests, stateSound};
 ghost use Rattle.stage.specs.Opening.{blank, opened, openingPlan, areas12};
@@ -225,8 +225,9 @@ impl State {
 
     // Matrix: flags push 1, load 2, projection 4, after the exclusive-or with 1 of the command word.
     pub fn matrix(mut self, flags: u8, data: &[u8], at: usize, matrices: &mut [f32]) -> Answered
-        ensures { λ r. ⌜ outcome r (now (matrices .exit)) ≡ carry area1 (matrixPlan f3dex2 self (tableIn matrixArea (self .counts) (now (matrices .entry))) flags (now («data» .entry)) at) self (now (matrices .entry)) ⌝ }
+        ensures { λ r. ⌜ outcome r (now (matrices .exit)) ≡ carry area1 (matrixPlan (familyOf (self .microcode)) self (tableIn matrixArea (self .counts) (now (matrices .entry))) flags (now («data» .entry)) at) self (now (matrices .entry)) ⌝ }
     {
+        let family = decide::family::family_of(self.microcode);
         if !self.sound() {
             return Answered {
                 state: self,
@@ -247,9 +248,9 @@ impl State {
         }
         let m = layout::matrix(data, at);
         let f = flags as u32;
-        let push = decide::judge::has_flag(1, f);
-        let load = decide::judge::has_flag(2, f);
-        let projection = decide::judge::has_flag(4, f);
+        let push = decide::judge::has_flag(family.push, f);
+        let load = decide::judge::has_flag(family.load, f);
+        let projection = decide::judge::has_flag(family.projection, f);
         let next = self.turned_by(push, load, projection, m);
         self.combined_to(next, next.product(), matrices)
     }
@@ -376,8 +377,9 @@ impl State {
 
     // Geometry mode: (old AND off) OR on.
     pub fn modify_geometry_mode(mut self, off: u32, on: u32) -> Answered
-        ensures { λ r. ⌜ outcome r tt ≡ carry nothing (geometryPlan f3dex2 self off on) self tt ⌝ }
+        ensures { λ r. ⌜ outcome r tt ≡ carry nothing (geometryPlan (familyOf (self .microcode)) self off on) self tt ⌝ }
     {
+        let family = decide::family::family_of(self.microcode);
         if !self.sound() {
             return Answered {
                 state: self,
@@ -386,7 +388,7 @@ impl State {
         }
         let old = self.geometry;
         let new = decide::stack::geometry_after(off, on, old);
-        let changed = self.lights.changed | decide::stack::relights(old, new);
+        let changed = self.lights.changed | decide::stack::relights(family, old, new);
         self.geometry = new;
         self.lights.changed = changed;
         Answered {

@@ -3,9 +3,9 @@ ghost use mathlib.Core.Path.{_≡_};
 ghost use Prim.Native.Nat.{_+_, _≤_};
 ghost use lib.ListN.{length};
 ghost use Rattle.areas.specs.Area.{put};
-ghost use Rattle.decide.specs.Family.{f3dex2};
 ghost use Rattle.triangle.specs.Slot.{bit, corners};
 ghost use Rattle.triangle.specs.Steps.{cornerAt, sidesOf};
+use decide::family::Family;
 
 // A corner of a triangle: its slot, whether that was ever loaded, and the slot's row.
 pub struct Corner {
@@ -32,12 +32,12 @@ pub fn corner_at(slots: u32, slot: u32, mark: bool, row: u32) -> Corner
     }
 }
 
-// The sides by the bits front and back.
-pub fn sides_of(geometry: u32) -> Sides
-    ensures { λ r. ⌜ r ≡ sidesOf f3dex2 geometry ⌝ }
+// The sides by the family's bits front and back.
+pub fn sides_of(f: Family, geometry: u32) -> Sides
+    ensures { λ r. ⌜ r ≡ sidesOf f geometry ⌝ }
 {
-    let front = decide::judge::has_flag(0x200, geometry);
-    let back = decide::judge::has_flag(0x400, geometry);
+    let front = decide::judge::has_flag(f.front, geometry);
+    let back = decide::judge::has_flag(f.back, geometry);
     Sides {
         both: front & back,
         cull: front | back,

@@ -8,7 +8,8 @@ use native.Mathlib.Omega.{arith}
 use Prim.Native.Nat.{ℕ}
 use mathlib.Core.List.{List, [], _∷_}
 use denote.Ref.{now}
-use Rattle.decide.specs.Family.{f3dex2}
+use Rattle.decide.specs.Family.{Family, familyOf}
+use Rattle.triangle.specs.Steps.{sidesOf}
 use borrow.Author.Needs.{needs}
 use Rattle.stage.proofs.State.draw_tri.Statement.{statement}
 use Rattle.stage.proofs.State.draw_tri.Tie as tie
@@ -19,11 +20,11 @@ asked c = c .args .material ∷ c .args .render-mode ∷ c .args .fog-colour ∷
 
 -- the verdict is the one that the laws speak of
 found : (e : tie.After-judge) →
-    let s = e .before .before .before .before .before .before .before .before .before .before .before .before .before .before .before in
-    e .judge .result ≡ judgement f3dex2 256 (s .args .self) (now (s .args .indices)) (now (s .args .runs)) (s .args .a) (s .args .b) (s .args .c) (asked s) refl
+    let s = e .before .before .before .before .before .before .before .before .before .before .before .before .before .before .before .before in
+    e .judge .result ≡ judgement (familyOf (s .args .self .microcode)) 256 (s .args .self) (now (s .args .indices)) (now (s .args .runs)) (s .args .a) (s .args .b) (s .args .c) (asked s) refl
 found e =
-    verdict-is f3dex2 256 _ _ _ _ _ _ _ _ _ _ _ _ _ _ _ _ _ _ _
-    (e .before .before .before .before .before .sides-of .ensures)
+    verdict-is (familyOf _) 256 _ _ _ _ _ _ _ _ _ _ _ _ _ _ _ _ _ _ _
+    (e .before .before .before .before .before .sides-of .ensures ∙ ap (λ (f : Family). sidesOf f _) (e .before .before .before .before .before .before .before .before .before .before .before .before .before .before .before .family-of .ensures))
     (e .before .before .before .before .before .before .before .before .before .corner-at .ensures)
     (e .before .before .before .before .before .before .before .before .corner-at2 .ensures)
     (e .before .before .before .before .before .before .before .corner-at3 .ensures)
@@ -35,11 +36,14 @@ found e =
 
 -- a recorded triangle has room
 accepted : (e : tie.After-v) →
-    let a = e .before .before .before .before .before .before .before .before .before .before .before .before .before .before .before .before .before .args in
+    let a = e .before .before .before .before .before .before .before .before .before .before .before .before .before .before .before .before .before .before .args in
     Rooms (a .self .counts .indices) (a .self .counts .runs) (e .v .given .0 .0) (length (now (a .indices))) (length (now (a .runs)))
 accepted e =
-    let s = e .before .before .before .before .before .before .before .before .before .before .before .before .before .before .before .before .before in
-    has-room f3dex2 256 _ _ _ _ _ _ (asked s) refl _ _ _ _ (found (e .before .before)) (e .v .given .1)
+    let s = e .before .before .before .before .before .before .before .before .before .before .before .before .before .before .before .before .before .before .before in
+    has-room (familyOf _) 256 _ _ _ _ _ _ (asked s) refl _ _ _ _ (found (e .before .before)) (e .v .given .1)
+
+family-of-requires : tie.Need-family-of-requires
+family-of-requires c κs = search needs
 
 cast-i : tie.Need-cast-i
 cast-i c = search needs
@@ -152,20 +156,21 @@ same-length-2 c = ⊎-elim (λ w. ap length (w .16 ∙ w .9 .ensures) ∙ length
 returns : tie.Need-returns
 returns c =
     let e = c .before .before in
-    let s = e .before .before .before .before .before .before .before .before .before .before .before .before .before .before .before in
-    let sides = e .before .before .before .before .before .sides-of .ensures in
+    let s = e .before .before .before .before .before .before .before .before .before .before .before .before .before .before .before .before in
+    let sides = e .before .before .before .before .before .sides-of .ensures ∙ ap (λ (f : Family). sidesOf f _) (e .before .before .before .before .before .before .before .before .before .before .before .before .before .before .before .family-of .ensures) in
     ⊎-elim
-    (λ w. draws f3dex2 256 (s .args .self) (now (s .args .indices)) (now (s .args .runs)) _ _ _ (asked s) refl _ _ _ _ (found e) (w .1 .given .1) _ (w .14)
+    (λ w. draws (familyOf (s .args .self .microcode)) 256 (s .args .self) (now (s .args .indices)) (now (s .args .runs)) _ _ _ (asked s) refl _ _ _ _ (found e) (w .1 .given .1) _ (w .14)
     _ (w .15 ∙ w .4 .ensures ∙ rw (sides, e .before .before .before .before .before .before .before .before .before .corner-at .ensures, e .before .before .before .before .before .before .before .before .corner-at2 .ensures, e .before .before .before .before .before .before .before .corner-at3 .ensures))
-    _ (run-written f3dex2 (s .args .self) (now (s .args .runs)) (asked s) _ _ _ _ _ _ _ sides (e .before .before .before .before .settings-of .ensures) (w .8 .ensures) (w .16 ∙ w .9 .ensures))
+    _ (run-written (familyOf (s .args .self .microcode)) (s .args .self) (now (s .args .runs)) (asked s) _ _ _ _ _ _ _ sides (e .before .before .before .before .settings-of .ensures) (w .8 .ensures) (w .16 ∙ w .9 .ensures))
     _ (w .17) _ (c .answer-of .ensures))
-    (λ w. draws-nothing f3dex2 256 (s .args .self) (now (s .args .indices)) (now (s .args .runs)) _ _ _ (asked s) refl _ _ _ _ _ _ (found e) (w .0 .keys2) (w .1) (w .2) (w .3) (w .4) (c .answer-of .ensures))
+    (λ w. draws-nothing (familyOf (s .args .self .microcode)) 256 (s .args .self) (now (s .args .indices)) (now (s .args .runs)) _ _ _ (asked s) refl _ _ _ _ _ _ (found e) (w .0 .keys2) (w .1) (w .2) (w .3) (w .4) (c .answer-of .ensures))
     (c .before .match .came)
 
 pub draw-tri-spec : {M : Type 1} → statement M
 draw-tri-spec =
     tie.close
     (tie.spec
+    family-of-requires
     cast-i
     cast-j
     cast-k

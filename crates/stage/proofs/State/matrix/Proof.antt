@@ -9,6 +9,9 @@ use Rattle.stage.specs.declared.Answer.the-variants.{BadState, ShortData
 use Rattle.stage.proofs.State.matrix.Statement.{statement}
 use Rattle.stage.proofs.State.matrix.Tie as tie
 
+family-of-requires : tie.Need-family-of-requires
+family-of-requires c κs = search needs
+
 sound-requires : tie.Need-sound-requires
 sound-requires c κs = search needs
 
@@ -85,12 +88,13 @@ returns-4 c =
     (passed area1 _ _ _ _ _ _ _ (holds (e2 .before .reaches .ensures) (e2 .if2 .left))
     (passed area1 _ _ _ _ _ _ _ (holds (table-holds 16 _ 0 _ _ _ (e3 .before .before .room-of .ensures) (e3 .before .holds .ensures)) (e3 .if3 .left))
     (c .before .before .combined-to .ensures
-    ∙ rw (c .before .before .before .before .product .ensures, c .before .before .before .before .before .turned-by .ensures, c .before .before .before .before .before .before .has-flag3 .ensures, c .before .before .before .before .before .before .before .has-flag2 .ensures, c .before .before .before .before .before .before .before .before .has-flag .ensures, c .before .before .before .before .before .before .before .before .before .matrix .ensures))))
+    ∙ rw (c .before .before .before .before .product .ensures, c .before .before .before .before .before .turned-by .ensures, c .before .before .before .before .before .before .has-flag3 .ensures, c .before .before .before .before .before .before .before .has-flag2 .ensures, c .before .before .before .before .before .before .before .before .has-flag .ensures, c .before .before .before .before .before .before .before .before .before .matrix .ensures, e1 .before .before .family-of .ensures))))
 
 pub matrix-spec : {M : Type 1} → statement M
 matrix-spec =
     tie.close
     (tie.spec
+    family-of-requires
     sound-requires
     returns
     reaches-requires

@@ -8,6 +8,9 @@ use borrow.Author.Needs.{needs}
 use Rattle.stage.proofs.State.settled_by.Statement.{statement}
 use Rattle.stage.proofs.State.settled_by.Tie as tie
 
+family-of-requires : tie.Need-family-of-requires
+family-of-requires c κs = search needs
+
 top-of-requires : tie.Need-top-of-requires
 top-of-requires c κs = search needs
 
@@ -26,8 +29,8 @@ is-lit-requires c κs = search needs
 texgen-mode-requires : tie.Need-texgen-mode-requires
 texgen-mode-requires c κs = search needs
 
-has-flag-requires : tie.Need-has-flag-requires
-has-flag-requires c κs = search needs
+is-foggy-requires : tie.Need-is-foggy-requires
+is-foggy-requires c κs = search needs
 
 fog-place-requires : tie.Need-fog-place-requires
 fog-place-requires c κs = search needs
@@ -49,15 +52,16 @@ folds-requires-2 c κs = search needs
 
 returns : tie.Need-returns
 returns c =
-    let s = c .before .before .before .before .before .before .before .before .before .before .before .before .before .before .before .before .before .before .before .before .before .before .args .self in
-    settled-is s _ _ _ (c .before .before .before .before .before .before .before .before .before .before .before .before .before .before .before .before .combined-now .result) (c .before .before .before .before .before .before .before .before .before .before .before .before .before .before .before .scales-of .result) (c .before .before .before .before .before .before .before .before .before .before .before .before .before .before .before .before .before .to-flat .result) (c .before .before .before .before .before .before .last-is .result) (c .before .before .before .before .before .scale-is .result) (c .before .before .before .folds .result) (c .before .folds2 .result) (c .before .before .before .before .before .before .before .before .before .before .before .before .before .before .is-lit .result) (c .before .before .before .before .before .before .before .before .before .before .before .before .has-flag .result) (c .before .before .before .before .before .before .before .before .before .before .before .before .before .texgen-mode .result) (c .before .before .before .before .before .before .before .before .before .fog-place .result) (s .counts .fogs)
+    let s = c .before .before .before .before .before .before .before .before .before .before .before .before .before .before .before .before .before .before .before .before .before .before .before .args .self in
+    let fam = c .before .before .before .before .before .before .before .before .before .before .before .before .before .before .before .before .before .before .before .before .before .before .family-of .ensures in
+    settled-is _ s _ _ _ (c .before .before .before .before .before .before .before .before .before .before .before .before .before .before .before .before .combined-now .result) (c .before .before .before .before .before .before .before .before .before .before .before .before .before .before .before .scales-of .result) (c .before .before .before .before .before .before .before .before .before .before .before .before .before .before .before .before .before .to-flat .result) (c .before .before .before .before .before .before .last-is .result) (c .before .before .before .before .before .scale-is .result) (c .before .before .before .folds .result) (c .before .folds2 .result) (c .before .before .before .before .before .before .before .before .before .before .before .before .before .before .is-lit .result) (c .before .before .before .before .before .before .before .before .before .before .before .before .is-foggy .result) (c .before .before .before .before .before .before .before .before .before .before .before .before .before .texgen-mode .result) (c .before .before .before .before .before .before .before .before .before .fog-place .result) (s .counts .fogs)
     (c .before .before .before .before .before .before .before .before .before .before .before .before .before .before .before .before .combined-now .ensures)
     (c .before .before .before .before .before .before .before .before .before .before .before .before .before .before .before .scales-of .ensures)
     (c .before .before .before .before .before .before .before .before .before .before .before .before .before .before .before .before .before .to-flat .ensures ∙ ap laid (c .before .before .before .before .before .before .before .before .before .before .before .before .before .before .before .before .before .before .top-of .ensures))
-    (c .before .before .before .before .before .before .before .before .before .before .before .before .before .before .is-lit .ensures)
-    (c .before .before .before .before .before .before .before .before .before .before .before .before .before .texgen-mode .ensures)
-    (c .before .before .before .before .before .before .before .before .before .before .before .before .has-flag .ensures)
-    (rw (toZ-ofZ {w = w16} {z = c .before .before .before .before .before .before .before .before .before .before .before .before .before .before .before .before .before .before .before .before .before .before .args .self .fogmul} (record { sfits = c .before .before .before .before .before .before .before .before .before .before .before .struct-told .given .1 .1 .1 .0 .1 }), toZ-ofZ {w = w16} {z = c .before .before .before .before .before .before .before .before .before .before .before .before .before .before .before .before .before .before .before .before .before .before .args .self .fogoff} (record { sfits = c .before .before .before .before .before .before .before .before .before .before .struct-told2 .given .1 .1 .1 .1 .0 .1 })) at (c .before .before .before .before .before .before .before .before .before .fog-place .ensures .0))
+    (rw fam at (c .before .before .before .before .before .before .before .before .before .before .before .before .before .before .is-lit .ensures))
+    (rw fam at (c .before .before .before .before .before .before .before .before .before .before .before .before .before .texgen-mode .ensures))
+    (rw fam at (c .before .before .before .before .before .before .before .before .before .before .before .before .is-foggy .ensures))
+    (rw (toZ-ofZ {w = w16} {z = c .before .before .before .before .before .before .before .before .before .before .before .before .before .before .before .before .before .before .before .before .before .before .before .args .self .fogmul} (record { sfits = c .before .before .before .before .before .before .before .before .before .before .before .struct-told .given .1 .1 .1 .0 .1 }), toZ-ofZ {w = w16} {z = c .before .before .before .before .before .before .before .before .before .before .before .before .before .before .before .before .before .before .before .before .before .before .before .args .self .fogoff} (record { sfits = c .before .before .before .before .before .before .before .before .before .before .struct-told2 .given .1 .1 .1 .1 .0 .1 })) at (c .before .before .before .before .before .before .before .before .before .fog-place .ensures .0))
     (c .before .before .before .before .before .before .last-is .ensures)
     (c .before .before .before .before .before .scale-is .ensures)
     (c .before .before .before .folds .ensures)
@@ -68,13 +72,14 @@ pub settled-by-spec : {M : Type 1} → statement M
 settled-by-spec =
     tie.close
     (tie.spec
+    family-of-requires
     top-of-requires
     to-flat-requires
     combined-now-requires
     scales-of-requires
     is-lit-requires
     texgen-mode-requires
-    has-flag-requires
+    is-foggy-requires
     fog-place-requires
     slice-aggregate-last-is
     last-is-requires
