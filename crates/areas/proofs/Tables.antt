@@ -13,18 +13,19 @@ use lib.IntN.{ℤ, pos, negsuc, pos-ne-negsuc}
 use lib.ListN.{length, take, drop, getD, set, length-append, length-drop, length-set}
 use lib.Seq.{length-sets, sets-eq, length-take-le, take-add, take-at, drop-at, drop-drop, take-set-le, drop-set-lt, drop-set-add, getD-set-same, getD-set-other}
 use borrow.Author.Tests.{eq-eqb, eqb-true}
+use Rattle.areas.specs.Widths.{most}
 use Rattle.areas.specs.Area.{room, part, put, matches, entries, flat, Wide, write, eqbℤ}
 
 -- ---- room
 
--- entries that there is room for lie in the area, and are at most 1,048,576
-pub room-fits : (w n k : ℕ) → k ≤ room w n → (k * w ≤ n) × (k ≤ 1048576)
+-- entries that there is room for lie in the area, and are at most `most`
+pub room-fits : (w n k : ℕ) → k ≤ room w n → (k * w ≤ n) × (k ≤ most)
 room-fits w n k h =
     let q : k ≤ n / w = omega arith in
     (le-trans (mul-le-mul-right w q) (div-mul-le-self n w), omega arith)
 
--- there is room for just the entries that lie in the area, up to 1,048,576
-pub room-is : (w n k : ℕ) → 0 < w → (k ≤ room w n) ↔ ((k * w ≤ n) × (k ≤ 1048576))
+-- there is room for just the entries that lie in the area, up to `most`
+pub room-is : (w n k : ℕ) → 0 < w → (k ≤ room w n) ↔ ((k * w ≤ n) × (k ≤ most))
 room-is w n k p =
     (room-fits w n k, λ h. let q : k ≤ n / w = le-div-iff-mul-le p .1 (h .0) in omega arith)
 

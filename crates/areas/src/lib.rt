@@ -2,21 +2,20 @@
 ghost use mathlib.Core.Path.{_≡_};
 ghost use Prim.Native.Nat.{ℕ, _+_, _*_, _≤_};
 ghost use lib.ListN.{length};
-ghost use lib.Dec.{eqb};
 ghost use lib.Ieee.{eq};
 ghost use Rattle.areas.specs.Area.{room, part, put, matches, eqbℤ};
+use crate::widths::MOST;
 
-// The most entries that an area is taken to have room for.
-const MOST: usize = 1_048_576;
+pub mod widths;
 
 // How many entries of `width` numbers an area of `len` numbers has room for.
-pub fn room_of(width: usize, len: usize) -> usize
+pub fn room_of(width: u32, len: usize) -> usize
     ensures { λ r. ⌜ r ≡ room width len ⌝ }
 {
     if width == 0 {
         return 0;
     }
-    let n = len / width;
+    let n = len / (width as usize);
     if n < MOST { n } else { MOST }
 }
 
@@ -107,25 +106,6 @@ pub fn same_f32(floats: &[f32], at: usize, entry: &[f32]) -> bool
     }
     for j in 0..entry.len() {
         if floats[at + j] != entry[j] {
-            return false;
-        }
-    }
-    true
-}
-
-// The same for u32, by number.
-pub fn same_u32(words: &[u32], at: usize, entry: &[u32]) -> bool
-    ensures { λ r. ⌜ r ≡ matches eqb (part (now (words .entry)) at (length (now (entry .entry)))) (now (entry .entry)) ⌝ }
-{
-    let n = words.len();
-    if n < at {
-        return entry.len() == 0;
-    }
-    if n - at < entry.len() {
-        return false;
-    }
-    for j in 0..entry.len() {
-        if words[at + j] != entry[j] {
             return false;
         }
     }

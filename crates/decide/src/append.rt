@@ -5,8 +5,12 @@ ghost use mathlib.Core.List.{[], _∷_};
 ghost use Prim.Native.Nat.{_≤_};
 ghost use lib.Ieee.{eq};
 ghost use Rattle.areas.specs.Area.{entries, matches};
+ghost use Rattle.areas.specs.Widths.{most, matrixWidth, scaleWidth, fogWidth};
 ghost use Rattle.decide.specs.Append.{final, onlyIf};
 ghost use Rattle.decide.specs.Steps.{Ended, ended, Put, putBy};
+use areas::widths::FOG_WIDTH;
+use areas::widths::MATRIX_WIDTH;
+use areas::widths::SCALE_WIDTH;
 
 // What became of the entry: it was there last, or it was appended, or there was no room for it.
 pub enum Append {
@@ -35,7 +39,7 @@ pub fn append_f32(floats: &mut [f32], width: u32, used: u32, entry: &[f32]) -> A
     if last_is(floats, width, used, entry) {
         return Append::Kept;
     }
-    if !crate::judge::holds(used, 1, areas::room_of(width as usize, floats.len())) {
+    if !crate::judge::holds(used, 1, areas::room_of(width, floats.len())) {
         return Append::Full;
     }
     areas::put_f32(floats, areas::place(width, used), entry);
@@ -44,7 +48,7 @@ pub fn append_f32(floats: &mut [f32], width: u32, used: u32, entry: &[f32]) -> A
 
 // `entry` appended where `need` says so: the count then. Asks for a count that does not wrap, which the state's judge has seen to.
 pub fn put_f32_if(need: bool, floats: &mut [f32], width: u32, used: u32, entry: &[f32]) -> u32
-    requires { ⌜ used ≤ 1048576 ⌝ }
+    requires { ⌜ used ≤ most ⌝ }
     ensures { λ r. ⌜ record { count = r; area = now (floats .exit) } ≡ putBy width used (onlyIf need (now (entry .entry) ∷ [])) (now (floats .entry)) ⌝ }
 {
     if !need {
@@ -56,7 +60,7 @@ pub fn put_f32_if(need: bool, floats: &mut [f32], width: u32, used: u32, entry: 
 
 // The same for i16.
 pub fn put_i16_if(need: bool, halves: &mut [i16], width: u32, used: u32, entry: &[i16]) -> u32
-    requires { ⌜ used ≤ 1048576 ⌝ }
+    requires { ⌜ used ≤ most ⌝ }
     ensures { λ r. ⌜ record { count = r; area = now (halves .exit) } ≡ putBy width used (onlyIf need (now (entry .entry) ∷ [])) (now (halves .entry)) ⌝ }
 {
     if !need {
@@ -68,23 +72,23 @@ pub fn put_i16_if(need: bool, halves: &mut [i16], width: u32, used: u32, entry: 
 
 // A matrix, a scale entry and a fog pair, each appended to its table where `need` says so.
 pub fn put_matrix_if(need: bool, matrices: &mut [f32], used: u32, entry: [f32; 16]) -> u32
-    requires { ⌜ used ≤ 1048576 ⌝ }
-    ensures { λ r. ⌜ record { count = r; area = now (matrices .exit) } ≡ putBy 16 used (onlyIf need (entry ∷ [])) (now (matrices .entry)) ⌝ }
+    requires { ⌜ used ≤ most ⌝ }
+    ensures { λ r. ⌜ record { count = r; area = now (matrices .exit) } ≡ putBy matrixWidth used (onlyIf need (entry ∷ [])) (now (matrices .entry)) ⌝ }
 {
-    put_f32_if(need, matrices, 16, used, &entry)
+    put_f32_if(need, matrices, MATRIX_WIDTH, used, &entry)
 }
 
 pub fn put_scales_if(need: bool, scales: &mut [f32], used: u32, entry: [f32; 4]) -> u32
-    requires { ⌜ used ≤ 1048576 ⌝ }
-    ensures { λ r. ⌜ record { count = r; area = now (scales .exit) } ≡ putBy 4 used (onlyIf need (entry ∷ [])) (now (scales .entry)) ⌝ }
+    requires { ⌜ used ≤ most ⌝ }
+    ensures { λ r. ⌜ record { count = r; area = now (scales .exit) } ≡ putBy scaleWidth used (onlyIf need (entry ∷ [])) (now (scales .entry)) ⌝ }
 {
-    put_f32_if(need, scales, 4, used, &entry)
+    put_f32_if(need, scales, SCALE_WIDTH, used, &entry)
 }
 
 pub fn put_fog_if(need: bool, fogs: &mut [i16], used: u32, multiplier: i16, offset: i16) -> u32
-    requires { ⌜ used ≤ 1048576 ⌝ }
-    ensures { λ r. ⌜ record { count = r; area = now (fogs .exit) } ≡ putBy 2 used (onlyIf need ((multiplier ∷ offset ∷ []) ∷ [])) (now (fogs .entry)) ⌝ }
+    requires { ⌜ used ≤ most ⌝ }
+    ensures { λ r. ⌜ record { count = r; area = now (fogs .exit) } ≡ putBy fogWidth used (onlyIf need ((multiplier ∷ offset ∷ []) ∷ [])) (now (fogs .entry)) ⌝ }
 {
     let pair = [multiplier, offset];
-    put_i16_if(need, fogs, 2, used, &pair)
+    put_i16_if(need, fogs, FOG_WIDTH, used, &pair)
 }

@@ -1,9 +1,11 @@
 // The model stack and the geometry mode word.
 ghost use mathlib.Core.Path.{_≡_};
 ghost use Prim.Native.Nat.{_+_, _-_, _*_, _≤_};
+ghost use Rattle.areas.specs.Widths.{matrixWidth};
 ghost use Rattle.matrix.specs.Math.{rows};
 ghost use Rattle.decide.specs.Stack.{made, pushed, popped, geometryAfter, relit};
 use crate::family::Family;
+use areas::widths::MATRIX_WIDTH;
 
 // Data, or data times what stood there.
 pub fn made_of(load: bool, m: [[f32; 4]; 4], old: [[f32; 4]; 4]) -> [[f32; 4]; 4]
@@ -34,10 +36,10 @@ pub fn popped_depth(count: u32, depth: u32) -> u32
 // Each number is read here: a helper that takes the stack costs a copy of it at each call.
 pub fn top_of(stack: [f32; 512], depth: u32) -> [[f32; 4]; 4]
     requires { ⌜ (1 ≤ depth) × (depth ≤ 32) ⌝ }
-    ensures { λ r. ⌜ r ≡ rows stack (16 * (depth - 1)) ⌝ }
+    ensures { λ r. ⌜ r ≡ rows stack (matrixWidth * (depth - 1)) ⌝ }
 {
     let s = stack;
-    let a = 16 * ((depth - 1) as usize);
+    let a = (MATRIX_WIDTH as usize) * ((depth - 1) as usize);
     let b = a + 4;
     let c = a + 8;
     let d = a + 12;

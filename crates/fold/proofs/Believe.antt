@@ -14,6 +14,7 @@ use lib.ListN.{length, getD, length-append, List·getD-append}
 use lib.Seq.{getD-at, drop-cons, take-all}
 use Rattle.numbers.specs.Choice.{pick}
 use Rattle.areas.specs.Area.{part, matches, eqbℤ, Wide}
+use Rattle.areas.specs.Widths.{scaleWidth, lightWidth, lookatWidth}
 use Rattle.areas.proofs.Tables.{wide-append, matches-nan}
 use Rattle.matrix.specs.Math
 use Rattle.fold.specs.Decision.{refold}
@@ -79,17 +80,17 @@ unfolding folded
 length-folded m v = refl
 
 -- a light's entry has six
-pub length-light : (m : List (List Float)) (ds cs : List Float) (k : ℕ) → length (lightEntry m ds cs k) ≡ 6
+pub length-light : (m : List (List Float)) (ds cs : List Float) (k : ℕ) → length (lightEntry m ds cs k) ≡ lightWidth
 unfolding lightEntry
 length-light m ds cs k = rw (length-append, length-folded)
 
 -- the lookat entry has six
-pub length-lookat : (m : List (List Float)) (axes : List Float) → length (lookatEntry m axes) ≡ 6
+pub length-lookat : (m : List (List Float)) (axes : List Float) → length (lookatEntry m axes) ≡ lookatWidth
 unfolding lookatEntry
 length-lookat m axes = simp (length-append, length-folded)
 
 -- the entry of texture scales has four
-pub length-scale : (sc tc : ℕ) → length (scaleEntry sc tc) ≡ 4
+pub length-scale : (sc tc : ℕ) → length (scaleEntry sc tc) ≡ scaleWidth
 length-scale sc tc = refl
 
 module _ (m : List (List Float)) (ds cs : List Float) where
@@ -105,11 +106,11 @@ module _ (m : List (List Float)) (ds cs : List Float) where
   length-directional (suc n) = rw (length-append, length-directional n) (omega arith)
 
   -- each six numbers wide
-  pub wide-directional : (n : ℕ) → Wide 6 (directional m ds cs n)
+  pub wide-directional : (n : ℕ) → Wide lightWidth (directional m ds cs n)
   unfolding directional
   wide-directional zero = tt
   wide-directional (suc n) =
-      wide-append 6 (directional m ds cs n) (lightEntry m ds cs n ∷ []) (wide-directional n) (length-light m ds cs n, tt)
+      wide-append lightWidth (directional m ds cs n) (lightEntry m ds cs n ∷ []) (wide-directional n) (length-light m ds cs n, tt)
 
   -- entry k is that of light k
   pub directional-at : (n k : ℕ) → k < n → getD (directional m ds cs n) k [] ≡ lightEntry m ds cs k
@@ -128,9 +129,9 @@ module _ (m : List (List Float)) (ds cs : List Float) where
     length-lights n = rw (length-append, length-directional n)
 
     -- each six numbers wide
-    pub wide-lights : (n : ℕ) → Wide 6 (lightEntries m ds cs ambient n)
+    pub wide-lights : (n : ℕ) → Wide lightWidth (lightEntries m ds cs ambient n)
     unfolding lightEntries
-    wide-lights n = wide-append 6 (directional m ds cs n) (ambientEntry ambient ∷ []) (wide-directional n) (refl, tt)
+    wide-lights n = wide-append lightWidth (directional m ds cs n) (ambientEntry ambient ∷ []) (wide-directional n) (refl, tt)
 
     -- the first are the lights' own
     pub lights-at : (n k : ℕ) → k < n → getD (lightEntries m ds cs ambient n) k [] ≡ lightEntry m ds cs k

@@ -9,6 +9,7 @@ use lib.ListN.{length, take, drop, getD}
 use lib.Seq.{take-take}
 use borrow.Author.Tests.{lt-ltb}
 use Rattle.areas.specs.Area.{entries, part, matches}
+use Rattle.areas.specs.Widths.{scaleWidth}
 use Rattle.areas.proofs.Tables.{length-entries, last-entry}
 use Rattle.fold.specs.Scales.{sameScale}
 
@@ -24,8 +25,8 @@ first-pair d (x ∷ []) h = absurd (omega arith)
 first-pair d (x ∷ y ∷ e) h = refl
 
 -- the first pair of the last entry in use, by its place
-pub scale-last : (n p : ℕ) (l e : List Float) (b : Bool) → 0 < n → length e ≡ 4 → p ≡ (n - 1) * 4 → b ≡ matches eq (part l p 2) (getD e 0 nan ∷ getD e 1 nan ∷ []) → b ≡ sameScale (entries 4 n l) e
+pub scale-last : (n p : ℕ) (l e : List Float) (b : Bool) → 0 < n → length e ≡ scaleWidth → p ≡ (n - 1) * scaleWidth → b ≡ matches eq (part l p 2) (getD e 0 nan ∷ getD e 1 nan ∷ []) → b ≡ sameScale (entries scaleWidth n l) e
 unfolding sameScale
 scale-last n p l e b h f at told =
     told
-    ∙ rw (length-entries 4 n l, lt-ltb 0 n h, last-entry 4 n l h, take-take 2 4 (drop ((n - 1) * 4) l) (omega arith), at, first-pair nan e (omega arith))
+    ∙ rw (length-entries scaleWidth n l, lt-ltb 0 n h, last-entry scaleWidth n l h, take-take 2 scaleWidth (drop ((n - 1) * scaleWidth) l) (omega arith), at, first-pair nan e (omega arith))

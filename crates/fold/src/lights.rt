@@ -2,8 +2,10 @@
 ghost use mathlib.Core.Path.{_≡_};
 ghost use Prim.Native.Nat.{_+_, _<_, _≤_};
 ghost use Rattle.areas.specs.Area.{write};
+ghost use Rattle.areas.specs.Widths.{lightWidth};
 ghost use Rattle.fold.specs.Direction.{three};
 ghost use Rattle.fold.specs.Lights.{lightEntry, ambientEntry, lightEntries};
+use areas::widths::LIGHT_WIDTH;
 
 // Three of the numbers of eight triples. Asks for a place that has them.
 fn three_of(f: [f32; 24], at: usize) -> [f32; 3]
@@ -43,13 +45,13 @@ pub fn fold_lights(
     number: u32,
 )
     requires { ⌜ number ≤ 7 ⌝ }
-    ensures { λ _. ⌜ now (lights .exit) ≡ write 6 used (lightEntries m directions colours ambient number) (now (lights .entry)) ⌝ }
+    ensures { λ _. ⌜ now (lights .exit) ≡ write lightWidth used (lightEntries m directions colours ambient number) (now (lights .entry)) ⌝ }
 {
-    let first = areas::place(6, used);
+    let first = areas::place(LIGHT_WIDTH, used);
     for k in 0..number {
         let entry = light_entry(m, directions, colours, k);
-        areas::put_f32(lights, first + areas::place(6, k), &entry);
+        areas::put_f32(lights, first + areas::place(LIGHT_WIDTH, k), &entry);
     }
     let last = ambient_entry(ambient);
-    areas::put_f32(lights, first + areas::place(6, number), &last);
+    areas::put_f32(lights, first + areas::place(LIGHT_WIDTH, number), &last);
 }

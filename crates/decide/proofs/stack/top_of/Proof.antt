@@ -4,11 +4,14 @@ use borrow.Author.Needs.{needs}
 use Rattle.decide.proofs.stack.top_of.Statement.{statement}
 use Rattle.decide.proofs.stack.top_of.Tie as tie
 
+cast-a : tie.Need-cast-a
+cast-a c = search needs
+
 sub-a : tie.Need-sub-a
 sub-a c = search needs
 
-cast-a : tie.Need-cast-a
-cast-a c = search needs
+cast-a-2 : tie.Need-cast-a-2
+cast-a-2 c = search needs
 
 mul-a : tie.Need-mul-a
 mul-a c = search needs
@@ -22,14 +25,14 @@ add-c c = search needs
 add-d : tie.Need-add-d
 add-d c = search needs
 
-mul-t9 : tie.Need-mul-t9
-mul-t9 c = search needs
+mul-t8 : tie.Need-mul-t8
+mul-t8 c = search needs
 
-array-read-t12 : tie.Need-array-read-t12
-array-read-t12 c = search needs
+array-read-t13 : tie.Need-array-read-t13
+array-read-t13 c = search needs
 
-add-t13 : tie.Need-add-t13
-add-t13 c = search needs
+add-t10 : tie.Need-add-t10
+add-t10 c = search needs
 
 mul-t14 : tie.Need-mul-t14
 mul-t14 c = search needs
@@ -162,15 +165,16 @@ pub top-of-spec : {M : Type 1} → statement M
 top-of-spec =
     tie.close
     (tie.spec
-    sub-a
     cast-a
+    sub-a
+    cast-a-2
     mul-a
     add-b
     add-c
     add-d
-    mul-t9
-    array-read-t12
-    add-t13
+    mul-t8
+    array-read-t13
+    add-t10
     mul-t14
     array-read-t17
     add-t18

@@ -3,12 +3,13 @@ use mir.Facts.{toZ-ofZ}
 use Prim.Native.Nat.{_-_, _≤_}
 use native.Mathlib.Omega.{arith}
 use borrow.Author.Needs.{needs}
+use Rattle.areas.specs.Widths.{fogWidth}
 use Rattle.fold.proofs.Passed.{Passed, passed-none, passed-more, passed-found, passed-all}
 use Rattle.fold.proofs.fog.fog_place.Statement.{statement}
 use Rattle.fold.proofs.fog.fog_place.Tie as tie
 
 abbrev Inv-loop : tie.InvT-loop
-Inv-loop fogs used multiplier offset pair k₀ k = Passed 2 used fogs pair k × (k ≤ used)
+Inv-loop fogs used multiplier offset pair k₀ k = Passed fogWidth used fogs pair k × (k ≤ used)
 
 abbrev μ-loop : tie.MeasureT-loop
 μ-loop fogs used multiplier offset pair k₀ k = used - k

@@ -3,6 +3,7 @@ use mathlib.Core.Path.{_≡_}
 use lib.ListN.{length}
 use Rattle.fold.proofs.Lasting.{scale-none, scale-last}
 use borrow.Author.Needs.{needs}
+use Rattle.areas.specs.Widths.{scaleWidth}
 use Rattle.fold.proofs.scales.scale_is.Statement.{statement}
 use Rattle.fold.proofs.scales.scale_is.Tie as tie
 
@@ -29,7 +30,7 @@ same-f32-requires c κs = search needs
 
 returns-2 : tie.Need-returns-2
 returns-2 c =
-    let n : length (c .before .before .before .before .before .args .t3) ≡ 4 = search needs in
+    let n : length (c .before .before .before .before .before .args .t3) ≡ scaleWidth = search needs in
     scale-last _ _ _ _ _ (search needs) n (c .before .before .place .ensures) (c .same-f32 .ensures)
 
 pub scale-is-spec : {M : Type 1} → statement M
