@@ -1,9 +1,10 @@
 -- What is known of a change that the judge lets through. Assumes nothing.
 use Prim.Native.Nat.{ℕ, _+_, _≤_, _<_}
 use native.Mathlib.Omega.{arith}
-use mathlib.Core.Bool.{Bool, true, false, cond, false≢true}
+use mathlib.Core.Bool.{Bool, true, false, false≢true}
 use mathlib.Core.Path.{_≡_, refl, ap, _∙_}
 use borrow.Author.Tests.{leb-true, ltb-true}
+use Rattle.numbers.specs.Choice.{pick, unless}
 use Rattle.change.specs.declared.Change.{Change}
 use Rattle.change.specs.declared.Asked.{Asked}
 use Rattle.change.specs.declared.Asked.the-variants.{Known, Unknown}
@@ -13,7 +14,7 @@ use Rattle.change.specs.declared.judge.Moved.{Moved}
 use Rattle.change.specs.declared.judge.Refusal.{Refusal}
 use Rattle.change.specs.declared.judge.Verdict.{Verdict}
 use Rattle.change.specs.declared.judge.Verdict.the-variants.{No, Go}
-use Rattle.change.specs.Judged.{comesTo, except, roomy, judged}
+use Rattle.change.specs.Steps.{comesTo, roomy, changeJudged}
 
 -- the verdict lets the change through
 abbrev goes : Verdict → Bool
@@ -21,13 +22,14 @@ goes (No r) = false
 goes (Go c m) = true
 
 -- a test that was passed on the way to a change that goes
-passed : (b : Bool) (r : Refusal) (v w : Verdict) → goes w ≡ true → except b r v ≡ w → (b ≡ true) × (v ≡ w)
-unfolding except
+passed : (b : Bool) (r : Refusal) (v w : Verdict) → goes w ≡ true → unless b (No r) v ≡ w → (b ≡ true) × (v ≡ w)
+unfolding unless
 passed true r v w g e = (refl, e)
 passed false r v w g e = absurd (false≢true (ap goes e ∙ g))
 
 -- a slot's row before and after: the row itself or the one behind all in use, with room for it
-stands : (drawn : Bool) (row rows room : ℕ) → row < rows → cond drawn (rows + 1) rows ≤ room → (row ≤ cond drawn rows row) × (cond drawn rows row + 1 ≤ room)
+stands : (drawn : Bool) (row rows room : ℕ) → row < rows → pick drawn (rows + 1) rows ≤ room → (row ≤ pick drawn rows row) × (pick drawn rows row + 1 ≤ room)
+unfolding pick
 stands true row rows room h k = omega arith
 stands false row rows room h k = omega arith
 
@@ -38,8 +40,8 @@ pub record Through (s : Slot) (t : Tables) (c : Change) (m : Moved) : Type 0 whe
   pub behind : s .row ≤ m .row
   pub room : m .row + 1 ≤ t .rowroom
 
-pub through : (asked : Asked) (s : Slot) (t : Tables) (c : Change) (m : Moved) → judged asked s t ≡ Go c m → Through s t c m
-unfolding judged roomy comesTo
+pub through : (asked : Asked) (s : Slot) (t : Tables) (c : Change) (m : Moved) → changeJudged asked s t ≡ Go c m → Through s t c m
+unfolding changeJudged roomy comesTo
 through Unknown s t c m e = absurd (false≢true (ap goes e))
 through (Known d) s t c m e =
     let h1 = passed (s .loaded) _ _ (Go c m) refl e in

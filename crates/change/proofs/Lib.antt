@@ -1,5 +1,4 @@
 pub mod Accepted
-pub mod Cases
 pub mod Inks
 pub mod Kept
 pub mod Storing

@@ -1,3 +1,3 @@
 pub mod Decoded
 pub mod Ink
-pub mod Judged
+pub mod Steps

@@ -3,7 +3,7 @@ ghost use mathlib.Core.Path.{_≡_};
 ghost use Prim.Native.Nat.{_+_, _*_, _≤_};
 ghost use lib.ListN.{length};
 ghost use Rattle.areas.specs.Area.{part, entries};
-ghost use Rattle.change.specs.Decoded.{wordWidth};
+ghost use Rattle.areas.specs.Widths.{wordWidth, indexWidth};
 ghost use Rattle.change.specs.Ink.{hasInk, inkAt, inkOf};
 use crate::WORDS;
 
@@ -31,8 +31,8 @@ fn ink_at(words: &[u32], rows: u32, i: u32, colour: u32) -> bool
 // How many of the first `used` indices are of rows that have the ink. Asks for rows and indices that lie in their areas,
 // as above.
 pub fn count_ink(words: &[u32], rows: u32, indices: &[u32], used: u32, colour: u32) -> u32
-    requires { ⌜ (rows * wordWidth ≤ length (now words)) × (used * 1 ≤ length (now indices)) ⌝ }
-    ensures { λ r. ⌜ r ≡ inkOf colour (entries wordWidth rows (now (words .entry))) (entries 1 used (now (indices .entry))) ⌝ }
+    requires { ⌜ (rows * wordWidth ≤ length (now words)) × (used * indexWidth ≤ length (now indices)) ⌝ }
+    ensures { λ r. ⌜ r ≡ inkOf colour (entries wordWidth rows (now (words .entry))) (entries indexWidth used (now (indices .entry))) ⌝ }
 {
     let n = used as usize;
     let mut count: u32 = 0;

@@ -1,8 +1,10 @@
 // The judge of a change, and the numbers that an accepted one comes to. Nothing is written before it is through.
 ghost use mathlib.Core.Path.{_≡_};
 ghost use Prim.Native.Nat.{_≤_};
-ghost use mathlib.Core.Bool.{cond};
-ghost use Rattle.change.specs.Judged.{rowRoom, appends, comesTo, roomy, judged};
+ghost use Rattle.numbers.specs.Choice.{pick};
+ghost use Rattle.areas.specs.Widths.{most};
+ghost use Rattle.change.specs.Decoded.{appends};
+ghost use Rattle.change.specs.Steps.{rowRoom, comesTo, roomy, changeJudged};
 use crate::Asked;
 use crate::Change;
 use crate::FLOATS;
@@ -70,7 +72,7 @@ fn appends_unit(c: Change, unit: u32) -> bool
 
 // One of two numbers, by a test.
 fn choose(b: bool, x: u32, y: u32) -> u32
-    ensures { λ r. ⌜ r ≡ cond b x y ⌝ }
+    ensures { λ r. ⌜ r ≡ pick b x y ⌝ }
 {
     if b { x } else { y }
 }
@@ -78,7 +80,7 @@ fn choose(b: bool, x: u32, y: u32) -> u32
 // The numbers that the change comes to: a slot that was drawn gets a copy of its row at the end. Asks for counts in their
 // range, which the state's own numbers are by then.
 fn moved_by(c: Change, s: Slot, t: Tables) -> Moved
-    requires { ⌜ (t .scales ≤ 1048576) × (t .rows ≤ 1048576) ⌝ }
+    requires { ⌜ (t .scales ≤ most) × (t .rows ≤ most) ⌝ }
     ensures { λ r. ⌜ r ≡ comesTo c s t ⌝ }
 {
     let fresh = appends_unit(c, t.unit);
@@ -92,7 +94,7 @@ fn moved_by(c: Change, s: Slot, t: Tables) -> Moved
 
 // Refusals 8 and 9, tables 3 and 7. Asks for counts in their range.
 fn judge_room(c: Change, s: Slot, t: Tables) -> Verdict
-    requires { ⌜ (t .scales ≤ 1048576) × (t .rows ≤ 1048576) ⌝ }
+    requires { ⌜ (t .scales ≤ most) × (t .rows ≤ most) ⌝ }
     ensures { λ r. ⌜ r ≡ roomy c s t ⌝ }
 {
     if t.scaleroom < (t.scales as usize) {
@@ -114,8 +116,8 @@ fn judge_room(c: Change, s: Slot, t: Tables) -> Verdict
 // Refusal 5, for a slot that is not loaded or an attribute that is not known, then 10 for the slot's row, then the areas.
 // Asks for counts in their range.
 pub fn judge(asked: Asked, s: Slot, t: Tables) -> Verdict
-    requires { ⌜ (t .scales ≤ 1048576) × (t .rows ≤ 1048576) ⌝ }
-    ensures { λ r. ⌜ r ≡ judged asked s t ⌝ }
+    requires { ⌜ (t .scales ≤ most) × (t .rows ≤ most) ⌝ }
+    ensures { λ r. ⌜ r ≡ changeJudged asked s t ⌝ }
 {
     match asked {
         Asked::Unknown => Verdict::No(Refusal::Unknown),

@@ -1,13 +1,13 @@
 // A row written anew with a change: in its place, or in a copy behind all rows in use.
 ghost use mathlib.Core.Path.{_≡_};
-ghost use mathlib.Core.Bool.{cond};
 ghost use mathlib.Core.List.{[], _∷_};
 ghost use Prim.Native.Nat.{_+_, _-_, _*_, _≤_};
 ghost use lib.Dec.{ltb};
 ghost use lib.ListN.{length};
+ghost use Rattle.numbers.specs.Choice.{pick};
 ghost use Rattle.areas.specs.Area.{part, put, write};
-ghost use Rattle.change.specs.Decoded.{floatsAfter, wordsAfter, floatWidth, wordWidth};
-ghost use Rattle.change.specs.Judged.{unitEntry};
+ghost use Rattle.areas.specs.Widths.{floatWidth, wordWidth, scaleWidth};
+ghost use Rattle.change.specs.Decoded.{floatsAfter, wordsAfter, unitEntry};
 use crate::Change;
 use crate::FLOATS;
 use crate::WORDS;
@@ -118,7 +118,7 @@ pub fn remake_words(words: &mut [u32], from: u32, to: u32, unit: u32, c: Change)
 
 // The unit scale entry written behind those in use, where there is to be one more.
 pub fn append_unit(scales: &mut [f32], used: u32, then: u32)
-    ensures { λ _. ⌜ now (scales .exit) ≡ cond (ltb used «then») (write 4 used (unitEntry ∷ []) (now (scales .entry))) (now (scales .entry)) ⌝ }
+    ensures { λ _. ⌜ now (scales .exit) ≡ pick (ltb used «then») (write scaleWidth used (unitEntry ∷ []) (now (scales .entry))) (now (scales .entry)) ⌝ }
 {
     if used < then {
         let entry = [1.0f32, 1.0, 0.0, 0.0];

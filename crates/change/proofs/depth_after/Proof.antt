@@ -1,4 +1,5 @@
 -- `change::depth_after` meets its contract. Assumes nothing.
+use Rattle.numbers.specs.Choice.{pick}
 use Rattle.change.specs.Decoded.{depthAfter}
 use borrow.Author.Needs.{needs}
 use Rattle.change.proofs.depth_after.Statement.{statement}
@@ -17,11 +18,11 @@ enum-told-3 : tie.Need-enum-told-3
 enum-told-3 c = search needs
 
 returns : tie.Need-returns
-unfolding depthAfter
+unfolding depthAfter pick
 returns c = rw (c .before .before .c .given .1, c .if1 .taken)
 
 returns-2 : tie.Need-returns-2
-unfolding depthAfter
+unfolding depthAfter pick
 returns-2 c = rw (c .before .before .c .given .1, c .if1 .left)
 
 returns-3 : tie.Need-returns-3

@@ -5,8 +5,9 @@ use mathlib.Core.Bool.{true, false}
 use mathlib.Core.Logic.{⊎-elim}
 use mathlib.Core.Path.{sym, _∙_}
 use borrow.Author.Needs.{needs}
+use Rattle.numbers.specs.Choice.{pick}
 use Rattle.areas.specs.Area.{entries}
-use Rattle.change.specs.Decoded.{wordWidth}
+use Rattle.areas.specs.Widths.{wordWidth}
 use Rattle.change.proofs.Inks.{Counted, counted-none, counted-more, counted-all}
 use Rattle.change.proofs.ink.count_ink.Statement.{statement}
 use Rattle.change.proofs.ink.count_ink.Tie as tie
@@ -39,6 +40,7 @@ loop-less : tie.Need-loop-less Inv-loop μ-loop
 loop-less c = omega arith
 
 loop-again : tie.Need-loop-again Inv-loop μ-loop
+unfolding pick
 loop-again c = (
   ⊎-elim
       (λ w. counted-more true (c .before .before .before .before .loop .inv .0) (sym (w .0 .taken) ∙ c .before .ink-at .ensures) (w .1))

@@ -1,6 +1,7 @@
 -- `change::ink::has_ink` meets its contract. Assumes nothing.
 use Prim.Native.Nat.{ℕ}
 use native.Mathlib.Omega.{arith}
+use Rattle.areas.specs.Widths.{wordWidth, colourWord}
 use Rattle.change.proofs.Storing.{part-at}
 use borrow.Author.Needs.{needs}
 use Rattle.change.proofs.ink.has_ink.Statement.{statement}
@@ -16,7 +17,7 @@ shared-slice-read-result : tie.Need-shared-slice-read-result
 shared-slice-read-result c = search needs
 
 returns : tie.Need-returns
-returns c = rw (part-at {A = ℕ} _ _ 10 4 0 (omega arith))
+returns c = rw (part-at {A = ℕ} _ _ wordWidth colourWord 0 (omega arith))
 
 pub has-ink-spec : {M : Type 1} → statement M
 has-ink-spec = tie.close (tie.spec add-result mul-result shared-slice-read-result returns)

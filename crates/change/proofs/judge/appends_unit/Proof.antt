@@ -1,5 +1,5 @@
 -- `change::judge::appends_unit` meets its contract. Assumes nothing.
-use Rattle.change.specs.Judged.{appends}
+use Rattle.change.specs.Decoded.{appends}
 use borrow.Author.Needs.{needs}
 use Rattle.change.proofs.judge.appends_unit.Statement.{statement}
 use Rattle.change.proofs.judge.appends_unit.Tie as tie

@@ -1,5 +1,5 @@
 -- `change::judge::moved_by` meets its contract. Assumes nothing.
-use Rattle.change.specs.Judged.{comesTo}
+use Rattle.change.specs.Steps.{comesTo}
 use borrow.Author.Needs.{needs}
 use Rattle.change.proofs.judge.moved_by.Statement.{statement}
 use Rattle.change.proofs.judge.moved_by.Tie as tie

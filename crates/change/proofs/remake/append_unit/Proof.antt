@@ -1,6 +1,7 @@
 -- `change::remake::append_unit` meets its contract. Assumes nothing.
 use lib.Ieee.{ofBits}
 use borrow.Author.Tests.{lt-ltb, le-ltb}
+use Rattle.numbers.specs.Choice.{pick}
 use Rattle.areas.proofs.Tables.{write-one}
 use borrow.Author.Needs.{needs}
 use Rattle.change.proofs.remake.append_unit.Statement.{statement}
@@ -19,10 +20,11 @@ same-length : tie.Need-same-length
 same-length c = search needs
 
 returns : tie.Need-returns
-unfolding ofBits
+unfolding ofBits pick
 returns c = rw (lt-ltb _ _ (c .before .before .before .before .before .before .if1 .taken), c .before .before .put-f32 .ensures, c .before .before .before .before .place .ensures, write-one)
 
 returns-2 : tie.Need-returns-2
+unfolding pick
 returns-2 c = rw (le-ltb _ _ (c .if1 .left))
 
 pub append-unit-spec : {M : Type 1} → statement M

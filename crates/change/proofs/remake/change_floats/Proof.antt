@@ -1,6 +1,7 @@
 -- `change::remake::change_floats` meets its contract. Assumes nothing.
 use lib.ListN.{length-set}
 use native.Mathlib.Omega.{arith}
+use Rattle.areas.specs.Widths.{floatWidth, sFloat, tFloat, screenX, screenY, screenZ}
 use Rattle.change.specs.Decoded.{floatsAfter}
 use Rattle.change.proofs.Storing.{unstored, stored}
 use borrow.Author.Needs.{needs}
@@ -66,28 +67,28 @@ slice-write-floats-5 c = search needs
 
 returns : tie.Need-returns
 unfolding floatsAfter
-returns c = rw (c .enum-told .given .1) (unstored _ _ 9 (c .before .before .pre) .same)
+returns c = rw (c .enum-told .given .1) (unstored _ _ floatWidth (c .before .before .pre) .same)
 
 same-length : tie.Need-same-length
 same-length c = search needs
 
 returns-2 : tie.Need-returns-2
 unfolding floatsAfter
-returns-2 c = rw (c .before .c .given .1) (stored 4 _ (stored 3 _ (unstored _ _ 9 (c .before .before .before .pre)) (omega arith)) (omega arith) .same)
+returns-2 c = rw (c .before .c .given .1) (stored tFloat _ (stored sFloat _ (unstored _ _ floatWidth (c .before .before .before .pre)) (omega arith)) (omega arith) .same)
 
 same-length-2 : tie.Need-same-length-2
 same-length-2 c = search needs
 
 returns-3 : tie.Need-returns-3
 unfolding floatsAfter
-returns-3 c = rw (c .before .c2 .given .1) (stored 6 _ (stored 5 _ (unstored _ _ 9 (c .before .before .before .pre)) (omega arith)) (omega arith) .same)
+returns-3 c = rw (c .before .c2 .given .1) (stored screenY _ (stored screenX _ (unstored _ _ floatWidth (c .before .before .before .pre)) (omega arith)) (omega arith) .same)
 
 same-length-3 : tie.Need-same-length-3
 same-length-3 c = search needs
 
 returns-4 : tie.Need-returns-4
 unfolding floatsAfter
-returns-4 c = rw (c .before .c3 .given .1) (stored 7 _ (unstored _ _ 9 (c .before .before .before .pre)) (omega arith) .same)
+returns-4 c = rw (c .before .c3 .given .1) (stored screenZ _ (unstored _ _ floatWidth (c .before .before .before .pre)) (omega arith) .same)
 
 pub change-floats-spec : {M : Type 1} → statement M
 change-floats-spec =

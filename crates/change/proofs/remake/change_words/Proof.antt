@@ -2,6 +2,7 @@
 use lib.ListN.{length-set}
 use lib.Bits.{bitOr}
 use native.Mathlib.Omega.{arith}
+use Rattle.areas.specs.Widths.{wordWidth, scaleWord, colourWord, lightWord, lightsWord, texgenWord, fogWord, lookatWord}
 use Rattle.change.specs.Decoded.{wordsAfter}
 use Rattle.change.proofs.Storing.{unstored, stored, first}
 use borrow.Author.Needs.{needs}
@@ -112,28 +113,28 @@ same-length c = search needs
 
 returns : tie.Need-returns
 unfolding wordsAfter
-returns c = rw (c .before .c .given .1) (stored 8 _ (stored 6 _ (stored 5 _ (stored 4 _ (unstored _ _ 10 (c .before .before .before .pre)) (omega arith)) (omega arith)) (omega arith)) (omega arith) .same)
+returns c = rw (c .before .c .given .1) (stored fogWord _ (stored lightsWord _ (stored lightWord _ (stored colourWord _ (unstored _ _ wordWidth (c .before .before .before .pre)) (omega arith)) (omega arith)) (omega arith)) (omega arith) .same)
 
 same-length-2 : tie.Need-same-length-2
 same-length-2 c = search needs
 
 returns-2 : tie.Need-returns-2
 unfolding wordsAfter
-returns-2 c = rw (c .enum-told .given .1) (stored 9 _ (stored 7 _ (stored 3 _ (unstored _ _ 10 (c .before .before .pre)) (omega arith)) (omega arith)) (omega arith) .same)
+returns-2 c = rw (c .enum-told .given .1) (stored lookatWord _ (stored texgenWord _ (stored scaleWord _ (unstored _ _ wordWidth (c .before .before .pre)) (omega arith)) (omega arith)) (omega arith) .same)
 
 same-length-3 : tie.Need-same-length-3
 same-length-3 c = search needs
 
 returns-3 : tie.Need-returns-3
 unfolding wordsAfter
-returns-3 c = rw (c .before .enum-told2 .given .1) (first _ _ 10 0 (λ x. bitOr x 1) (c .before .before .before .pre) (omega arith))
+returns-3 c = rw (c .before .enum-told2 .given .1) (first _ _ wordWidth 0 (λ x. bitOr x 1) (c .before .before .before .pre) (omega arith))
 
 same-length-4 : tie.Need-same-length-4
 same-length-4 c = search needs
 
 returns-4 : tie.Need-returns-4
 unfolding wordsAfter
-returns-4 c = rw (c .before .enum-told3 .given .1) (first _ _ 10 0 (λ x. bitOr x 2) (c .before .before .before .pre) (omega arith))
+returns-4 c = rw (c .before .enum-told3 .given .1) (first _ _ wordWidth 0 (λ x. bitOr x 2) (c .before .before .before .pre) (omega arith))
 
 pub change-words-spec : {M : Type 1} → statement M
 change-words-spec =

@@ -1,4 +1,5 @@
 -- `change::remake::remake_floats` meets its contract. Assumes nothing.
+use Rattle.areas.specs.Widths.{floatWidth}
 use Rattle.change.specs.Decoded.{floatsAfter}
 use Rattle.change.proofs.Kept.{floats-kept}
 use Rattle.change.proofs.Storing.{remade}
@@ -21,7 +22,7 @@ same-length c = search needs
 returns : tie.Need-returns
 returns c =
     let a = c .before .before .before .before .before .before .before .before .before .before .args in
-    remade (floatsAfter (a .c)) _ _ _ 9 (a .from) (a .to) _ (floats-kept (a .c)) (c .before .before .before .before .before .before .before .before .before .before .pre) (c .before .before .before .before .before .before .before .copy-floats .ensures) (c .before .before .before .place .ensures)
+    remade (floatsAfter (a .c)) _ _ _ floatWidth (a .from) (a .to) _ (floats-kept (a .c)) (c .before .before .before .before .before .before .before .before .before .before .pre) (c .before .before .before .before .before .before .before .copy-floats .ensures) (c .before .before .before .place .ensures)
     (c .before .before .change-floats .ensures)
 
 pub remake-floats-spec : {M : Type 1} → statement M

@@ -1,6 +1,7 @@
 -- `change::remake::remake_words` meets its contract. Assumes nothing.
 use Prim.Native.Nat.{_-_}
 use mathlib.Core.Path.{_∙_}
+use Rattle.areas.specs.Widths.{wordWidth}
 use Rattle.change.specs.Decoded.{wordsAfter}
 use Rattle.change.proofs.Kept.{words-kept}
 use Rattle.change.proofs.Storing.{remade}
@@ -27,7 +28,7 @@ returns : tie.Need-returns
 returns c =
     let a = c .before .before .before .before .before .before .before .before .before .before .before .args in
     let f = wordsAfter (a .c) (a .unit - 1) in
-    remade f _ _ _ 10 (a .from) (a .to) _ (words-kept (a .c) (a .unit - 1)) (c .before .before .before .before .before .before .before .before .before .before .before .pre) (c .before .before .before .before .before .before .before .before .copy-words .ensures) (c .before .before .before .before .place .ensures)
+    remade f _ _ _ wordWidth (a .from) (a .to) _ (words-kept (a .c) (a .unit - 1)) (c .before .before .before .before .before .before .before .before .before .before .before .pre) (c .before .before .before .before .before .before .before .before .copy-words .ensures) (c .before .before .before .before .place .ensures)
     (rw (c .before .before .before .place-of .ensures) at (c .before .before .change-words .ensures))
 
 pub remake-words-spec : {M : Type 1} → statement M
