@@ -16,7 +16,8 @@ pub fn room_of(width: u32, len: usize) -> usize
         return 0;
     }
     let n = len / (width as usize);
-    if n < MOST { n } else { MOST }
+    let most = MOST as usize;
+    if n < most { n } else { most }
 }
 
 // Where entry `k` begins.

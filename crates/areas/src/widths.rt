@@ -2,7 +2,7 @@
 // the most: the numbers of specs/Widths.antt, by the same names.
 
 // The most entries of a table.
-pub const MOST: usize = 1_048_576;
+pub const MOST: u32 = 1_048_576;
 
 // Numbers an entry, by table, 1 to 9; a row has f32 and u32.
 pub const MATRIX_WIDTH: u32 = 16;

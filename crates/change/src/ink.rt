@@ -5,7 +5,8 @@ ghost use lib.ListN.{length};
 ghost use Rattle.areas.specs.Area.{part, entries};
 ghost use Rattle.areas.specs.Widths.{wordWidth, indexWidth};
 ghost use Rattle.change.specs.Ink.{hasInk, inkAt, inkOf};
-use crate::WORDS;
+use areas::widths::COLOUR_WORD;
+use areas::widths::WORD_WIDTH;
 
 // Whether the row at place `at` has the ink asked, which is its colour word. Asks for a row that lies in the area: its
 // room has been judged by then.
@@ -13,7 +14,7 @@ fn has_ink(words: &[u32], at: usize, colour: u32) -> bool
     requires { ⌜ at + wordWidth ≤ length (now words) ⌝ }
     ensures { λ r. ⌜ r ≡ hasInk colour (part (now (words .entry)) at wordWidth) ⌝ }
 {
-    words[at + 4] == colour
+    words[at + COLOUR_WORD] == colour
 }
 
 // Whether the index `i` is that of a row in use that has the ink. Asks for rows that lie in the area, as above.
@@ -22,7 +23,7 @@ fn ink_at(words: &[u32], rows: u32, i: u32, colour: u32) -> bool
     ensures { λ r. ⌜ r ≡ inkAt colour (entries wordWidth rows (now (words .entry))) i ⌝ }
 {
     if i < rows {
-        has_ink(words, areas::place(WORDS, i), colour)
+        has_ink(words, areas::place(WORD_WIDTH, i), colour)
     } else {
         false
     }

@@ -7,8 +7,8 @@ ghost use Rattle.change.specs.Decoded.{appends};
 ghost use Rattle.change.specs.Steps.{rowRoom, comesTo, roomy, changeJudged};
 use crate::Asked;
 use crate::Change;
-use crate::FLOATS;
-use crate::WORDS;
+use areas::widths::FLOAT_WIDTH;
+use areas::widths::WORD_WIDTH;
 
 // What the state has of the slot: whether it is loaded, whether it was drawn since its row was made, and its row.
 pub struct Slot {
@@ -53,8 +53,8 @@ pub enum Verdict {
 pub fn row_room(floats: usize, words: usize) -> usize
     ensures { λ r. ⌜ r ≡ rowRoom floats words ⌝ }
 {
-    let x = areas::room_of(FLOATS as usize, floats);
-    let y = areas::room_of(WORDS as usize, words);
+    let x = areas::room_of(FLOAT_WIDTH, floats);
+    let y = areas::room_of(WORD_WIDTH, words);
     if x < y { x } else { y }
 }
 

@@ -10,11 +10,6 @@ pub mod ink;
 pub mod judge;
 pub mod remake;
 
-// How many f32 and how many u32 numbers a row has.
-pub const FLOATS: u32 = 9;
-
-pub const WORDS: u32 = 10;
-
 // A change of a row, with its decoded values: the colour word; s and t; screen x and y; screen z, and the slot's own.
 pub enum Change {
     Colour(u32),

@@ -9,8 +9,21 @@ ghost use Rattle.areas.specs.Area.{part, put, write};
 ghost use Rattle.areas.specs.Widths.{floatWidth, wordWidth, scaleWidth};
 ghost use Rattle.change.specs.Decoded.{floatsAfter, wordsAfter, unitEntry};
 use crate::Change;
-use crate::FLOATS;
-use crate::WORDS;
+use areas::widths::COLOUR_WORD;
+use areas::widths::FLOAT_WIDTH;
+use areas::widths::FOG_WORD;
+use areas::widths::LIGHTS_WORD;
+use areas::widths::LIGHT_WORD;
+use areas::widths::LOOKAT_WORD;
+use areas::widths::SCALE_WIDTH;
+use areas::widths::SCALE_WORD;
+use areas::widths::SCREEN_X;
+use areas::widths::SCREEN_Y;
+use areas::widths::SCREEN_Z;
+use areas::widths::S_FLOAT;
+use areas::widths::TEXGEN_WORD;
+use areas::widths::T_FLOAT;
+use areas::widths::WORD_WIDTH;
 
 // The change made in the f32 numbers of the row at place `at`. Asks for a row that lies in the area: its room has been
 // judged before anything is written.
@@ -21,15 +34,15 @@ pub fn change_floats(floats: &mut [f32], at: usize, c: Change)
     match c {
         Change::Colour(_) => {}
         Change::Texture(s, t) => {
-            floats[at + 3] = s;
-            floats[at + 4] = t;
+            floats[at + S_FLOAT] = s;
+            floats[at + T_FLOAT] = t;
         }
         Change::Screen(x, y) => {
-            floats[at + 5] = x;
-            floats[at + 6] = y;
+            floats[at + SCREEN_X] = x;
+            floats[at + SCREEN_Y] = y;
         }
         Change::Depth(z, _) => {
-            floats[at + 7] = z;
+            floats[at + SCREEN_Z] = z;
         }
     }
 }
@@ -41,15 +54,15 @@ pub fn change_words(words: &mut [u32], at: usize, unit: u32, c: Change)
 {
     match c {
         Change::Colour(word) => {
-            words[at + 4] = word;
-            words[at + 5] = 0;
-            words[at + 6] = 0;
-            words[at + 8] = 0;
+            words[at + COLOUR_WORD] = word;
+            words[at + LIGHT_WORD] = 0;
+            words[at + LIGHTS_WORD] = 0;
+            words[at + FOG_WORD] = 0;
         }
         Change::Texture(_, _) => {
-            words[at + 3] = unit;
-            words[at + 7] = 0;
-            words[at + 9] = 0;
+            words[at + SCALE_WORD] = unit;
+            words[at + TEXGEN_WORD] = 0;
+            words[at + LOOKAT_WORD] = 0;
         }
         Change::Screen(_, _) => {
             words[at] = words[at] | 1;
@@ -76,9 +89,9 @@ fn copy_floats(floats: &mut [f32], from: u32, to: u32)
     if from < to {
         areas::copy_f32(
             floats,
-            areas::place(FLOATS, from),
-            areas::place(FLOATS, to),
-            FLOATS as usize,
+            areas::place(FLOAT_WIDTH, from),
+            areas::place(FLOAT_WIDTH, to),
+            FLOAT_WIDTH as usize,
         );
     }
 }
@@ -91,9 +104,9 @@ fn copy_words(words: &mut [u32], from: u32, to: u32)
     if from < to {
         areas::copy_u32(
             words,
-            areas::place(WORDS, from),
-            areas::place(WORDS, to),
-            WORDS as usize,
+            areas::place(WORD_WIDTH, from),
+            areas::place(WORD_WIDTH, to),
+            WORD_WIDTH as usize,
         );
     }
 }
@@ -104,7 +117,7 @@ pub fn remake_floats(floats: &mut [f32], from: u32, to: u32, c: Change)
     ensures { λ _. ⌜ now (floats .exit) ≡ write floatWidth to (floatsAfter c (part (now (floats .entry)) (from * floatWidth) floatWidth) ∷ []) (now (floats .entry)) ⌝ }
 {
     copy_floats(floats, from, to);
-    change_floats(floats, areas::place(FLOATS, to), c);
+    change_floats(floats, areas::place(FLOAT_WIDTH, to), c);
 }
 
 // The same for the u32 numbers; `unit` is the place of the unit scale entry plus 1, or 0 where there is none.
@@ -113,7 +126,7 @@ pub fn remake_words(words: &mut [u32], from: u32, to: u32, unit: u32, c: Change)
     ensures { λ _. ⌜ now (words .exit) ≡ write wordWidth to (wordsAfter c (unit - 1) (part (now (words .entry)) (from * wordWidth) wordWidth) ∷ []) (now (words .entry)) ⌝ }
 {
     copy_words(words, from, to);
-    change_words(words, areas::place(WORDS, to), place_of(unit), c);
+    change_words(words, areas::place(WORD_WIDTH, to), place_of(unit), c);
 }
 
 // The unit scale entry written behind those in use, where there is to be one more.
@@ -122,6 +135,6 @@ pub fn append_unit(scales: &mut [f32], used: u32, then: u32)
 {
     if used < then {
         let entry = [1.0f32, 1.0, 0.0, 0.0];
-        areas::put_f32(scales, areas::place(4, used), &entry);
+        areas::put_f32(scales, areas::place(SCALE_WIDTH, used), &entry);
     }
 }

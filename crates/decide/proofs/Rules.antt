@@ -10,7 +10,8 @@ use lib.Ieee.{Float}
 use borrow.Author.Tests.{ltb-true, le-leb, lt-leb, not-true, not-false}
 use Rattle.numbers.specs.Choice.{pick}
 use Rattle.matrix.specs.Math.{times}
-use Rattle.decide.specs.Family.{Family, flag, lit, texgenMode}
+use Rattle.decide.specs.declared.family.Family.{Family}
+use Rattle.decide.specs.Family.{flag, lit, texgenMode}
 use Rattle.decide.specs.Stack.{made, pushed, popped}
 
 -- the second of two tests that both hold

@@ -3,7 +3,7 @@ use Prim.Native.Nat.{ℕ, _/_, _%_}
 use mathlib.Core.Bool.{Bool, true, _&&_}
 use lib.Dec.{eqb}
 use Rattle.numbers.specs.Choice.{pick}
-pub use Rattle.decide.specs.declared.family.Family.{Family}
+use Rattle.decide.specs.declared.family.Family.{Family}
 
 -- F3DEX2, of gbi.h: the matrix flags after the exclusive-or with 1 of the command word
 abbrev pub f3dex2 : Family

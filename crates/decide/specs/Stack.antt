@@ -7,7 +7,8 @@ use lib.Dec.{ltb}
 use lib.Ieee.{Float}
 use Rattle.numbers.specs.Choice.{pick}
 use Rattle.matrix.specs.Math.{times}
-use Rattle.decide.specs.Family.{Family, lit}
+use Rattle.decide.specs.declared.family.Family.{Family}
+use Rattle.decide.specs.Family.{lit}
 
 -- data, or data times what stood there
 unfoldable pub made : Bool → List (List Float) → List (List Float) → List (List Float)

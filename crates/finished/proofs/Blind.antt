@@ -1,7 +1,7 @@
 -- The bench reads no number of a table: with every count, row, mark and place of a state blanked it acts the same. Assumes nothing.
 use mathlib.Core.Path.{_≡_, refl}
 use mathlib.Core.List.{[]}
-use Rattle.decide.specs.Family.{Family}
+use Rattle.decide.specs.declared.family.Family.{Family}
 use Rattle.stage.specs.declared.State.{State}
 use Rattle.stage.specs.With.{state, modesOf, matricesOf}
 use Rattle.sequence.specs.Sequence.{Command, matrix, force, pop, viewport, geometry, texture, fog, number, light, lookat, microcode, load, cull, depth, modify, draw, ink}

@@ -8,7 +8,7 @@ use lib.ListN.{length, getD, length-replicate}
 use lib.Dec.{leb}
 use borrow.Author.Tests.{leb-true}
 use Rattle.areas.specs.Area.{room}
-use Rattle.decide.specs.Family.{Family}
+use Rattle.decide.specs.declared.family.Family.{Family}
 use Rattle.change.specs.declared.Asked.{Asked}
 use Rattle.change.specs.declared.Asked.the-variants.{Known, Unknown}
 use Rattle.change.specs.Decoded.{decoded}

@@ -11,7 +11,8 @@ use lib.Dec.{eqb}
 use lib.Ieee.{Float}
 use borrow.Author.Tests.{eqb-false}
 use Rattle.areas.specs.Area.{part}
-use Rattle.decide.specs.Family.{Family, flag, lit, texgenMode}
+use Rattle.decide.specs.declared.family.Family.{Family}
+use Rattle.decide.specs.Family.{flag, lit, texgenMode}
 use Rattle.layout.specs.declared.records.Vertex.{Vertex}
 use Rattle.vertex.specs.declared.Shared.{Shared}
 use Rattle.vertex.specs.Vertices.{floatsOf, wordsOf, slotOf}

@@ -7,7 +7,8 @@ use lib.ListN.{length}
 use lib.Dec.{eqb}
 use lib.Ieee.{Float}
 use borrow.Author.Tests.{ne-eqb}
-use Rattle.decide.specs.Family.{Family, flag, lit, texgenMode}
+use Rattle.decide.specs.declared.family.Family.{Family}
+use Rattle.decide.specs.Family.{flag, lit, texgenMode}
 use Rattle.fold.specs.Lights.{lightEntries}
 use Rattle.fold.proofs.Believe.{length-lights}
 use Rattle.layout.specs.declared.records.Vertex.{Vertex}

@@ -12,7 +12,8 @@ use lib.Ieee.{Float, eq}
 use Rattle.areas.specs.Area.{matches}
 use Rattle.matrix.specs.Math.{identity, rows, laid}
 use Rattle.layout.specs.declared.records.Vertex.{Vertex}
-use Rattle.decide.specs.Family.{Family, flag, lit, texgenMode}
+use Rattle.decide.specs.declared.family.Family.{Family}
+use Rattle.decide.specs.Family.{flag, lit, texgenMode}
 use Rattle.fold.specs.Decision.{refold}
 use Rattle.fold.specs.Lights.{lightEntries}
 use Rattle.fold.specs.Lookat.{lookatEntry}

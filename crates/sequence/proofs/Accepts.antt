@@ -10,7 +10,8 @@ use borrow.Author.Tests.{leb-true, ltb-true}
 use Rattle.stage.proofs.Judged.{and-left, and-right}
 use Rattle.areas.specs.Area.{matches}
 use Rattle.decide.specs.Append.{final}
-use Rattle.decide.specs.Family.{Family, flag}
+use Rattle.decide.specs.declared.family.Family.{Family}
+use Rattle.decide.specs.Family.{flag}
 use Rattle.decide.specs.Judge.{Lent, fits}
 use Rattle.decide.specs.Stack.{popped}
 use Rattle.matrix.specs.Math.{rows, laid, times}

@@ -11,7 +11,7 @@ use lib.Ieee.{Float}
 use Rattle.areas.specs.Area.{room, entries, Wide}
 use Rattle.areas.proofs.Tables.{room-fits, length-entries, wide-entries, entry-is, matches-length}
 use Rattle.decide.specs.Append.{final}
-use Rattle.decide.specs.Family.{Family}
+use Rattle.decide.specs.declared.family.Family.{Family}
 use Rattle.matrix.specs.Math.{rows}
 use Rattle.matrix.proofs.Believe.{length-laid}
 use Rattle.layout.proofs.Believe.{pair-sizes}

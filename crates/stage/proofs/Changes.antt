@@ -3,7 +3,7 @@ use mathlib.Core.Path.{_≡_, refl, sym, _∙_}
 use Prim.Native.Nat.{ℕ, _+_, _-_, _*_, _≤_, _<_}
 use native.Mathlib.Nat.{add-zero}
 use native.Mathlib.Omega.{arith}
-use mathlib.Core.Bool.{Bool, true, false, cond}
+use mathlib.Core.Bool.{Bool, true, false}
 use mathlib.Core.List.{List, [], _∷_}
 use lib.ListN.{length, getD}
 use lib.Dec.{ltb}
@@ -21,8 +21,8 @@ use Rattle.change.specs.declared.judge.Refusal.the-variants.{NoRow, Short, Full
 use Rattle.change.specs.declared.judge.Refusal.the-variants as refusal
 use Rattle.change.specs.declared.judge.Verdict.{Verdict}
 use Rattle.change.specs.declared.judge.Verdict.the-variants.{No, Go}
-use Rattle.change.specs.Decoded.{floatsAfter, wordsAfter}
-use Rattle.change.specs.Judged.{unitEntry, appends, comesTo, except, roomy, judged}
+use Rattle.change.specs.Decoded.{floatsAfter, wordsAfter, unitEntry, appends}
+use Rattle.change.specs.Steps.{comesTo, roomy, changeJudged}
 use Rattle.change.proofs.Accepted.{through}
 use Rattle.stage.specs.declared.State.{State}
 use Rattle.stage.specs.declared.Answer.the-variants.{Done}
@@ -31,17 +31,18 @@ use Rattle.stage.specs.Plan.{Table, Edit, keep, grow, patch, Row, Plan, 
 use Rattle.stage.specs.Sound.{sound}
 use Rattle.stage.specs.With.{withCounts}
 use Rattle.stage.specs.Modify.{areas37, edits37, asking, scaleEdit, rowEdit, rowChange, moved, changed, changePlan}
-use Rattle.stage.specs.Steps.{modifyAnswer, slotOf, tablesOf, countsTo}
+use Rattle.stage.specs.Steps.{modifyAnswer, slotLooked, tablesLooked, countsTo}
 use Rattle.stage.proofs.RowEntries.{length-rows, row-at, rows-in}
 
 -- one entry appended, or none, as a count has it
-grown : {E : Type 0} (b : Bool) (n : ℕ) (x : E) (e : Edit E) → more e ≡ 0 → n + more (pick b (grow (x ∷ [])) e) ≡ cond b (n + 1) n
+grown : {E : Type 0} (b : Bool) (n : ℕ) (x : E) (e : Edit E) → more e ≡ 0 → n + more (pick b (grow (x ∷ [])) e) ≡ pick b (n + 1) n
 unfolding pick
 grown true n x e h = refl
 grown false n x e h = rw (h, add-zero)
 
 -- the count tells whether one is appended
-tells : (b : Bool) (n : ℕ) → ltb n (cond b (n + 1) n) ≡ b
+tells : (b : Bool) (n : ℕ) → ltb n (pick b (n + 1) n) ≡ b
+unfolding pick
 tells true n = lt-ltb n (n + 1) (omega arith)
 tells false n = le-ltb n n (omega arith)
 
@@ -52,11 +53,11 @@ planned s rows slot attribute (Go c m) = does [] (changed c m s slot) (edits37 (
 
 -- a test of the judge is the same test of the plan
 step : (s : State) (rows : Table Row) (slot attribute : ℕ) (a b : Bool) (r : Refusal) (v : Verdict) (p : Plan) → a ≡ b → p ≡ planned s rows slot attribute v
-    → unless b (refuse (number (modifyAnswer slot attribute r)) (values (modifyAnswer slot attribute r))) p ≡ planned s rows slot attribute (except a r v)
-unfolding except unless
+    → unless b (refuse (number (modifyAnswer slot attribute r)) (values (modifyAnswer slot attribute r))) p ≡ planned s rows slot attribute (unless a (No r) v)
+unfolding unless
 step s rows slot attribute a b r v p e h = rw e (by b)
   where
-    by : (b : Bool) → unless b (refuse (number (modifyAnswer slot attribute r)) (values (modifyAnswer slot attribute r))) p ≡ planned s rows slot attribute (except b r v)
+    by : (b : Bool) → unless b (refuse (number (modifyAnswer slot attribute r)) (values (modifyAnswer slot attribute r))) p ≡ planned s rows slot attribute (unless b (No r) v)
     by true = h
     by false = refl
 
@@ -64,8 +65,8 @@ step s rows slot attribute a b r v p e h = rw e (by b)
 settled : (a d : Bool) (i : ℕ) (r : Row) (s t : State) (l f : List Float) (w : List ℕ)
     → let n3 = s .counts .scales in
     let n7 = s .counts .rows in
-    let m : Moved = record { row = cond d n7 i; rows = cond d (n7 + 1) n7; scales = cond a (n3 + 1) n3; unit = 0 } in
-    outcome (record { state = withCounts t (countsTo m (s .counts)); answer = Done }) (cond a (write 4 n3 (unitEntry ∷ []) l) l, write 9 (m .row) (r .floats ∷ []) f, write 10 (m .row) (r .words ∷ []) w)
+    let m : Moved = record { row = pick d n7 i; rows = pick d (n7 + 1) n7; scales = pick a (n3 + 1) n3; unit = 0 } in
+    outcome (record { state = withCounts t (countsTo m (s .counts)); answer = Done }) (pick a (write 4 n3 (unitEntry ∷ []) l) l, write 9 (m .row) (r .floats ∷ []) f, write 10 (m .row) (r .words ∷ []) w)
     ≡ carry areas37 (does [] t (edits37 (pick a (grow (unitEntry ∷ [])) keep) (rowEdit d i r))) s (l, f, w)
 unfolding pick carry
 settled true true i r s t l f w = refl
@@ -75,12 +76,12 @@ settled false false i r s t l f w = refl
 
 -- the verdict x on what the code looks at of a slot that there is
 pub looked : (slots : ℕ) (s : State) (slot : ℕ) (k j : Asked) (t u : Tables) (v x : Verdict) → slot < slots → k ≡ j → t ≡ u
-    → v ≡ judged k (record { loaded = getD (s .loaded) slot false; drawn = getD (s .drawn) slot false; row = getD (s .row) slot 0 }) t → v ≡ x → judged j (slotOf slots s slot) u ≡ x
+    → v ≡ changeJudged k (record { loaded = getD (s .loaded) slot false; drawn = getD (s .drawn) slot false; row = getD (s .row) slot 0 }) t → v ≡ x → changeJudged j (slotLooked slots s slot) u ≡ x
 looked slots s slot k j t u v x h ek et e d = rw (lt-ltb slot slots h, ← ek, ← et) (sym e ∙ d)
 
 -- the judge's verdict on a change asked for, and what is planned once the state is sound
 abbrev pub verdict : ℕ → State → List Float → List Float → List ℕ → ℕ → Asked → Verdict
-verdict slots s l f w slot k = judged k (slotOf slots s slot) (tablesOf s (table 4 (s .counts .scales) l) (rowTable (s .counts .rows) f w))
+verdict slots s l f w slot k = changeJudged k (slotLooked slots s slot) (tablesLooked s (table 4 (s .counts .scales) l) (rowTable (s .counts .rows) f w))
 
 abbrev pub plan : ℕ → State → List Float → List Float → List ℕ → ℕ → ℕ → Asked → Plan
 plan slots s l f w slot attribute k = asking k slot attribute (changePlan slots s (table 4 (s .counts .scales) l) (rowTable (s .counts .rows) f w) slot attribute)
@@ -96,7 +97,7 @@ written slots s l f w slot k c m e =
 module _ (slots : ℕ) (s : State) (l f : List Float) (w : List ℕ) (slot attribute : ℕ) where
   -- THE PLAN OF A MODIFY IS WHAT THE VERDICT STANDS FOR
   pub verdict-plan : (k : Asked) → plan slots s l f w slot attribute k ≡ planned s (rowTable (s .counts .rows) f w) slot attribute (verdict slots s l f w slot k)
-  unfolding asking changePlan judged roomy comesTo moved
+  unfolding asking changePlan changeJudged roomy comesTo moved
   verdict-plan Unknown = refl
   verdict-plan (Known c) =
       let n7 = s .counts .rows in
@@ -110,7 +111,7 @@ module _ (slots : ℕ) (s : State) (l f : List Float) (w : List ℕ) (slot attri
 
   -- a slot that there is not is refused, whatever is asked
   pub no-slot : (k : Asked) → slots ≤ slot → verdict slots s l f w slot k ≡ No refusal.Unknown
-  unfolding judged except
+  unfolding changeJudged unless
   no-slot Unknown h = refl
   no-slot (Known c) h = rw (le-ltb slot slots h)
 
@@ -123,7 +124,7 @@ module _ (slots : ℕ) (s : State) (l f : List Float) (w : List ℕ) (slot attri
   module _ (k : Asked) (c : Change) (m : Moved) (e : verdict slots s l f w slot k ≡ Go c m) where
     -- an accepted change: the state t and the areas x, y and z are those of the plan, where the leaves have left them so
     pub accepted : (t : State) (x y : List Float) (z : List ℕ)
-        → x ≡ cond (ltb (s .counts .scales) (m .scales)) (write 4 (s .counts .scales) (unitEntry ∷ []) l) l
+        → x ≡ pick (ltb (s .counts .scales) (m .scales)) (write 4 (s .counts .scales) (unitEntry ∷ []) l) l
         → y ≡ write 9 (m .row) (floatsAfter c (part f (getD (s .row) slot 0 * 9) 9) ∷ []) f
         → z ≡ write 10 (m .row) (wordsAfter c (m .unit - 1) (part w (getD (s .row) slot 0 * 10) 10) ∷ []) w
         → t ≡ withCounts (changed c m s slot) (countsTo m (s .counts))

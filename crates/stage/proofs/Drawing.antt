@@ -7,7 +7,7 @@ use mathlib.Core.List.{List, [], _∷_}
 use mathlib.Core.Logic.{_⊎_, inl, inr}
 use lib.ListN.{length, getD, set, length-set}
 use lib.Seq.{getD-set-same}
-use Rattle.decide.specs.Family.{Family}
+use Rattle.decide.specs.declared.family.Family.{Family}
 use Rattle.triangle.specs.Run.{settings, sameRun}
 use Rattle.triangle.specs.Slot.{both, culls}
 use Rattle.triangle.proofs.Slots.{held-below}

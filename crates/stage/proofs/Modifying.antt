@@ -2,7 +2,7 @@
 use mathlib.Core.Path.{_≡_, refl, sym, subst, _∙_}
 use Prim.Native.Nat.{ℕ, _-_, _*_, _≤_, _<_}
 use native.Mathlib.Omega.{arith}
-use mathlib.Core.Bool.{Bool, true, false, cond, false≢true}
+use mathlib.Core.Bool.{Bool, true, false, false≢true}
 use mathlib.Core.List.{List, [], _∷_}
 use mathlib.Core.Logic.{_≢_}
 use lib.ListN.{length, getD, take, drop}
@@ -16,14 +16,14 @@ use Rattle.change.specs.declared.Change.the-variants.{Colour, Texture, Screen, 
 use Rattle.change.specs.declared.judge.Moved.{Moved}
 use Rattle.change.specs.declared.judge.Verdict.{Verdict}
 use Rattle.change.specs.declared.judge.Verdict.the-variants.{No, Go}
-use Rattle.change.specs.Decoded.{decoded, floatsAfter, wordsAfter}
-use Rattle.change.specs.Judged.{unitEntry, appends, comesTo}
+use Rattle.change.specs.Decoded.{decoded, floatsAfter, wordsAfter, unitEntry, appends}
+use Rattle.change.specs.Steps.{comesTo}
 use Rattle.change.proofs.Accepted.{through}
 use Rattle.change.proofs.Kept.{floats-kept, words-kept, position-kept}
 use Rattle.change.proofs.Storing.{part-long, elsewhere, there}
 use Rattle.stage.specs.declared.State.{State}
 use Rattle.stage.specs.declared.Answer.the-variants.{Done}
-use Rattle.stage.specs.Plan.{unless, table, Outcome, outcome, carry, rowTable}
+use Rattle.stage.specs.Plan.{unless, pick, table, Outcome, outcome, carry, rowTable}
 use Rattle.stage.specs.Sound.{stateSound}
 use Rattle.stage.specs.With.{withCounts}
 use Rattle.stage.specs.Modify.{areas37, changed, modifyPlan}
@@ -57,7 +57,7 @@ module _ (slots : ℕ) (s : State) (l f : List Float) (w : List ℕ) (slot attri
       → (
       (c : Change) (m : Moved) → verdict slots s l f w slot (decoded attribute value) ≡ Go c m
       → P (outcome (record { state = withCounts (changed c m s slot) (countsTo m (s .counts)); answer = Done }) (
-        cond (ltb (s .counts .scales) (m .scales)) (write 4 (s .counts .scales) (unitEntry ∷ []) l) l,
+        pick (ltb (s .counts .scales) (m .scales)) (write 4 (s .counts .scales) (unitEntry ∷ []) l) l,
         write 9 (m .row) (floatsAfter c (part f (getD (s .row) slot 0 * 9) 9) ∷ []) f,
         write 10 (m .row) (wordsAfter c (m .unit - 1) (part w (getD (s .row) slot 0 * 10) 10) ∷ []) w,
       ))
@@ -77,11 +77,11 @@ module _ (slots : ℕ) (s : State) (l f : List Float) (w : List ℕ) (slot attri
   module _ (c : Change) (m : Moved) (e : verdict slots s l f w slot (decoded attribute value) ≡ Go c m) where
     -- where the slot was drawn, its row is then the one behind all in use; else it is the one that it was
     moves : (getD (s .drawn) slot false ≡ true) → m .row ≡ s .counts .rows
-    unfolding comesTo
+    unfolding comesTo pick
     moves d = rw (through _ _ _ c m e .comes, d)
 
     rests : (getD (s .drawn) slot false ≡ false) → (m .row ≡ getD (s .row) slot 0) × (m .rows ≡ s .counts .rows)
-    unfolding comesTo
+    unfolding comesTo pick
     rests d = (rw (through _ _ _ c m e .comes, d), rw (through _ _ _ c m e .comes, d))
 
     -- a row in use that is written is the slot's own, and was not drawn
@@ -151,7 +151,7 @@ module _ (slots : ℕ) (s : State) (l f : List Float) (w : List ℕ) (slot attri
   pub unit-once : s .unit ≢ 0
       → let o = modified slots s l f w slot attribute value in
       (o .areas .0 ≡ l) × (o .state .counts .scales ≡ s .counts .scales)
-  unfolding comesTo
+  unfolding comesTo pick
   unit-once d =
       by-cases (λ o. (o .areas .0 ≡ l) × (o .state .counts .scales ≡ s .counts .scales)) (λ n vs. (refl, refl))
       (λ c m e.

@@ -11,7 +11,7 @@ use lib.Ieee.{Float}
 use borrow.Author.Tests.{leb-true}
 use Rattle.areas.specs.Area.{entries, room, part}
 use Rattle.areas.proofs.Tables.{length-entries, entry-is, room-fits}
-use Rattle.change.specs.Judged.{rowRoom}
+use Rattle.change.specs.Steps.{rowRoom}
 use Rattle.stage.specs.Plan.{rowsOf, rowTable, rowWords}
 
 -- entries of the same number make as many rows

@@ -11,7 +11,8 @@ use Rattle.areas.specs.Area.{matches}
 use Rattle.matrix.specs.Math.{laid}
 use Rattle.decide.specs.Append.{final, onlyIf}
 use Rattle.decide.specs.Steps.{Put, putBy}
-use Rattle.decide.specs.Family.{Family, lit, foggy, texgenMode}
+use Rattle.decide.specs.declared.family.Family.{Family}
+use Rattle.decide.specs.Family.{lit, foggy, texgenMode}
 use Rattle.fold.specs.Decision.{refold}
 use Rattle.fold.specs.Fog.{find}
 use Rattle.fold.specs.Scales.{scaleEntry, sameScale}

@@ -2,7 +2,7 @@
 use mathlib.Core.Path.{_≡_, refl, sym, subst}
 use Prim.Native.Nat.{ℕ, _+_, _≤_, _<_}
 use native.Mathlib.Omega.{arith}
-use mathlib.Core.Bool.{Bool, true, false, _&&_, cond, false≢true}
+use mathlib.Core.Bool.{Bool, true, false, _&&_, false≢true}
 use mathlib.Core.List.{List}
 use lib.Dec.{leb, ltb}
 use lib.Ieee.{Float}
@@ -18,14 +18,14 @@ abbrev pub InStack : ℕ → Type 0
 InStack d = (1 ≤ d) × (d ≤ 32)
 
 pub pushed-in : (push : Bool) (d : ℕ) → InStack d → InStack (pushed push d)
-unfolding pushed
+unfolding pushed pick
 pushed-in push d h = go (push && ltb d 32) refl
   where
     right : (a b : Bool) → a && b ≡ true → b ≡ true
     right true b e = e
     right false b e = absurd (false≢true e)
 
-    go : (b : Bool) → push && ltb d 32 ≡ b → InStack (cond b (d + 1) d)
+    go : (b : Bool) → push && ltb d 32 ≡ b → InStack (pick b (d + 1) d)
     go true e = let l : d < 32 = ltb-true d 32 (right push (ltb d 32) e) in omega arith
     go false e = h
 

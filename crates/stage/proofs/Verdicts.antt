@@ -11,7 +11,7 @@ use lib.ListN.{length, getD, set, length-append}
 use borrow.Author.Tests.{le-leb, leb-true}
 use Rattle.areas.specs.Area.{room, entries, put, write}
 use Rattle.areas.proofs.Tables.{length-entries, write-one}
-use Rattle.decide.specs.Family.{Family}
+use Rattle.decide.specs.declared.family.Family.{Family}
 use Rattle.triangle.specs.declared.run.Last.{Last}
 use Rattle.triangle.specs.declared.run.Settings.{Settings}
 use Rattle.triangle.specs.declared.slot.Corner.{Corner}

@@ -8,7 +8,8 @@ use lib.Dec.{eqb, leb, ltb}
 use lib.IntN.{pos}
 use lib.Ieee.{nan, le, binary64}
 use Rattle.decide.specs.Append.{final}
-use Rattle.decide.specs.Family.{Family, familyOf}
+use Rattle.decide.specs.declared.family.Family.{Family}
+use Rattle.decide.specs.Family.{familyOf}
 use Rattle.numbers.specs.Ratio.{ofRatio}
 use Rattle.triangle.specs.Run.{settings, runOf, longer, closed, sameRun}
 use Rattle.triangle.specs.Slot.{bit, held, corners, both, culls, swaps}

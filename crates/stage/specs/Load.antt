@@ -11,7 +11,8 @@ use Rattle.matrix.specs.Math.{at, rows, laid}
 use Rattle.layout.specs.declared.records.Vertex.{Vertex}
 use Rattle.decide.specs.Append.{final}
 use Rattle.decide.specs.Judge.{Lent}
-use Rattle.decide.specs.Family.{Family, familyOf, lit, foggy, texgenMode}
+use Rattle.decide.specs.declared.family.Family.{Family}
+use Rattle.decide.specs.Family.{familyOf, lit, foggy, texgenMode}
 use Rattle.fold.specs.Decision.{refold}
 use Rattle.fold.specs.Fog.{find}
 use Rattle.fold.specs.Lights.{lightEntries}

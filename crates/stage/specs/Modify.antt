@@ -1,6 +1,6 @@
 -- The meaning of modify and of the ink count. Definitions only.
 use Prim.Native.Nat.{ℕ, _+_, _-_}
-use mathlib.Core.Bool.{Bool, false, _&&_, cond}
+use mathlib.Core.Bool.{Bool, false, _&&_}
 use mathlib.Core.List.{List, [], _∷_, map}
 use lib.ListN.{getD, set}
 use lib.Dec.{ltb}
@@ -9,8 +9,7 @@ use Rattle.change.specs.declared.Change.{Change}
 use Rattle.change.specs.declared.Asked.{Asked}
 use Rattle.change.specs.declared.Asked.the-variants.{Known, Unknown}
 use Rattle.change.specs.declared.judge.Moved.{Moved}
-use Rattle.change.specs.Decoded.{decoded, floatsAfter, wordsAfter, depthAfter}
-use Rattle.change.specs.Judged.{unitEntry, appends}
+use Rattle.change.specs.Decoded.{decoded, floatsAfter, wordsAfter, depthAfter, unitEntry, appends}
 use Rattle.change.specs.Ink.{inkOf}
 use Rattle.stage.specs.declared.State.{State}
 use Rattle.stage.specs.declared.Counts.{Counts}
@@ -40,10 +39,10 @@ moved c s slot =
     let drawn = getD (s .drawn) slot false in
     let new = appends c (s .unit) in
     record {
-      row = cond drawn (s .counts .rows) (getD (s .row) slot 0);
-      rows = cond drawn (s .counts .rows + 1) (s .counts .rows);
-      scales = cond new (s .counts .scales + 1) (s .counts .scales);
-      unit = cond new (s .counts .scales + 1) (s .unit);
+      row = pick drawn (s .counts .rows) (getD (s .row) slot 0);
+      rows = pick drawn (s .counts .rows + 1) (s .counts .rows);
+      scales = pick new (s .counts .scales + 1) (s .counts .scales);
+      unit = pick new (s .counts .scales + 1) (s .unit);
     }
 
 -- the unit scale entry is appended once per opening

@@ -122,12 +122,12 @@ pub record RowsLaid (s : State) (m : List (List Float)) (e : Shared) (first : �
 -- ---- modify
 
 -- what the judge looks at of the slot, of so many slots that there are, and of the two tables
-abbrev pub slotOf : ℕ → State → ℕ → Slot
-slotOf slots s slot =
+abbrev pub slotLooked : ℕ → State → ℕ → Slot
+slotLooked slots s slot =
     record { loaded = ltb slot slots && getD (s .loaded) slot false; drawn = getD (s .drawn) slot false; row = getD (s .row) slot 0 }
 
-abbrev pub tablesOf : State → Table (List Float) → Table Row → Tables
-tablesOf s scales rows =
+abbrev pub tablesLooked : State → Table (List Float) → Table Row → Tables
+tablesLooked s scales rows =
     record { scales = s .counts .scales; scaleroom = scales .room; rows = s .counts .rows; rowroom = rows .room; unit = s .unit }
 
 -- the counts once the change is made

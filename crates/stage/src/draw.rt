@@ -9,6 +9,7 @@ ghost use Rattle.stage.specs.Steps.{drawAnswer};
 use crate::Answer;
 use crate::Answered;
 use crate::State;
+use areas::widths::RUN_WIDTH;
 use triangle::run;
 use triangle::slot;
 use triangle::verdict;
@@ -149,7 +150,7 @@ impl State {
             drawn[j] = true;
             drawn[k] = true;
             slot::put_corners(indices, n as usize, sides.swap, p.row, q.row, s.row);
-            run::put_run(runs, areas::place(8, m + more - 1), set, start, count);
+            run::put_run(runs, areas::place(RUN_WIDTH, m + more - 1), set, start, count);
             let indexed = n + 3;
             let recorded = m + more;
             self.drawn = drawn;

@@ -3,7 +3,8 @@ ghost use mathlib.Core.Path.{_≡_};
 ghost use mathlib.Core.List.{[]};
 ghost use Prim.Native.Nat.{_+_, _*_, _≤_, min};
 ghost use lib.ListN.{length};
-ghost use Rattle.areas.specs.Area.{entries, room};
+ghost use Rattle.areas.specs.Area.{entries};
+ghost use Rattle.areas.specs.Widths.{matrixWidth, scaleWidth, fogWidth};
 ghost use Rattle.decide.specs.Family.{familyOf};
 ghost use Rattle.decide.specs.Judge.{firstShort};
 ghost use Rattle.stage.specs.Plan.{outcome, pick};
@@ -16,6 +17,13 @@ use crate::Counts;
 use crate::Lights;
 use crate::Lookat;
 use crate::State;
+use areas::widths::FLOAT_WIDTH;
+use areas::widths::FOG_WIDTH;
+use areas::widths::LIGHT_WIDTH;
+use areas::widths::LOOKAT_WIDTH;
+use areas::widths::MATRIX_WIDTH;
+use areas::widths::SCALE_WIDTH;
+use areas::widths::WORD_WIDTH;
 use decide::judge::Fill;
 use vertex::Shared;
 
@@ -76,14 +84,14 @@ fn rooms_of(
     ensures { λ r. ⌜ r ≡ roomsOf (length (now (matrices .entry))) (length (now (scales .entry))) (length (now (lights .entry))) (length (now (lookats .entry))) (length (now (fogs .entry))) (length (now (floats .entry))) (length (now (words .entry))) ⌝ }
 {
     Rooms {
-        matrices: areas::room_of(16, matrices.len()),
-        scales: areas::room_of(4, scales.len()),
-        lights: areas::room_of(6, lights.len()),
-        lookats: areas::room_of(6, lookats.len()),
-        fogs: areas::room_of(2, fogs.len()),
+        matrices: areas::room_of(MATRIX_WIDTH, matrices.len()),
+        scales: areas::room_of(SCALE_WIDTH, scales.len()),
+        lights: areas::room_of(LIGHT_WIDTH, lights.len()),
+        lookats: areas::room_of(LOOKAT_WIDTH, lookats.len()),
+        fogs: areas::room_of(FOG_WIDTH, fogs.len()),
         rows: lesser(
-            areas::room_of(9, floats.len()),
-            areas::room_of(10, words.len()),
+            areas::room_of(FLOAT_WIDTH, floats.len()),
+            areas::room_of(WORD_WIDTH, words.len()),
         ),
     }
 }
@@ -182,7 +190,7 @@ impl State {
     // The decisions of a load, each once. Asks for what has been judged by then.
     fn settled_by(self, matrices: &[f32], scales: &[f32], fogs: &[i16]) -> Settled
         requires { ⌜ (1 ≤ self .depth) × (self .depth ≤ 32) ⌝ }
-        ensures { λ r. ⌜ r ≡ settled (familyOf (self .microcode)) self (entries 16 (self .counts .matrices) (now (matrices .entry))) (entries 4 (self .counts .scales) (now (scales .entry))) (entries 2 (self .counts .fogs) (now (fogs .entry))) ⌝ }
+        ensures { λ r. ⌜ r ≡ settled (familyOf (self .microcode)) self (entries matrixWidth (self .counts .matrices) (now (matrices .entry))) (entries scaleWidth (self .counts .scales) (now (scales .entry))) (entries fogWidth (self .counts .fogs) (now (fogs .entry))) ⌝ }
     {
         let family = decide::family::family_of(self.microcode);
         let stack = self.stack;
@@ -194,7 +202,7 @@ impl State {
         let foggy = decide::geometry::is_foggy(family, self.geometry);
         let place = fold::fog::fog_place(fogs, self.counts.fogs, self.fogmul, self.fogoff);
         let matrix = !self.defined
-            & !decide::append::last_is(matrices, 16, self.counts.matrices, &combined);
+            & !decide::append::last_is(matrices, MATRIX_WIDTH, self.counts.matrices, &combined);
         let scale = !fold::scales::scale_is(scales, self.counts.scales, entry);
         let ltop = self.lights.top;
         let light = lit

@@ -5,6 +5,7 @@ ghost use lib.ListN.{length};
 ghost use mathlib.Core.Bool.{false};
 ghost use lib.Dec.{leb};
 ghost use Rattle.areas.specs.Area.{room};
+ghost use Rattle.areas.specs.Widths.{most, matrixWidth, viewportWidth};
 ghost use Rattle.decide.specs.Family.{familyOf};
 ghost use Rattle.stage.specs.Plan.{outcome, carry, nothing, matrixArea, viewportArea, tableIn};
 ghost use Rattle.stage.specs.Sound.{all, countTests, stateSound};
@@ -17,6 +18,9 @@ use crate::Lights;
 use crate::Lookat;
 use crate::State;
 use crate::Texture;
+use areas::widths::MATRIX_WIDTH;
+use areas::widths::MOST;
+use areas::widths::VIEWPORT_WIDTH;
 use decide::append::Append;
 
 // A state with every number zero, every mark cleared and every slot empty.
@@ -102,16 +106,16 @@ fn sound_counts(c: Counts) -> bool
     ensures { λ r. ⌜ r ≡ all (countTests c) ⌝ }
 {
     (1 <= c.matrices)
-        & (c.matrices <= 1048576)
+        & (c.matrices <= MOST)
         & (1 <= c.viewports)
-        & (c.viewports <= 1048576)
-        & (c.scales <= 1048576)
-        & (c.lights <= 1048576)
-        & (c.lookats <= 1048576)
-        & (c.fogs <= 1048576)
-        & (c.rows <= 1048576)
-        & (c.indices <= 1048576)
-        & (c.runs <= 1048576)
+        & (c.viewports <= MOST)
+        & (c.scales <= MOST)
+        & (c.lights <= MOST)
+        & (c.lookats <= MOST)
+        & (c.fogs <= MOST)
+        & (c.rows <= MOST)
+        & (c.indices <= MOST)
+        & (c.runs <= MOST)
 }
 
 impl State {
@@ -130,13 +134,13 @@ impl State {
     pub fn opening(matrices: &mut [f32], viewports: &mut [f32]) -> Answered
         ensures { λ r. ⌜ outcome r (now (matrices .exit), now (viewports .exit)) ≡ carry areas12 (openingPlan (now (matrices .entry)) (now (viewports .entry))) (blank false) (now (matrices .entry), now (viewports .entry)) ⌝ }
     {
-        if areas::room_of(16, matrices.len()) < 1 {
+        if areas::room_of(MATRIX_WIDTH, matrices.len()) < 1 {
             return Answered {
                 state: blank_state(false),
                 answer: Answer::NoRoom(1),
             };
         }
-        if areas::room_of(6, viewports.len()) < 1 {
+        if areas::room_of(VIEWPORT_WIDTH, viewports.len()) < 1 {
             return Answered {
                 state: blank_state(false),
                 answer: Answer::NoRoom(2),
@@ -193,7 +197,7 @@ impl State {
     // `next` with the combined matrix m, or the state as given where table 1 has no room for it. Asks for what has been
     // judged by then: the count, and that the area holds what is in use.
     fn combined_to(self, next: State, m: [f32; 16], matrices: &mut [f32]) -> Answered
-        requires { ⌜ (self .counts .matrices ≤ 1048576) × (self .counts .matrices ≤ room 16 (length (now matrices))) ⌝ }
+        requires { ⌜ (self .counts .matrices ≤ most) × (self .counts .matrices ≤ room matrixWidth (length (now matrices))) ⌝ }
         ensures { λ r. ⌜ outcome r (now (matrices .exit)) ≡ carry area1 (combine next (tableIn matrixArea (self .counts) (now (matrices .entry))) m) self (now (matrices .entry)) ⌝ }
     {
         let mut counts = self.counts;
@@ -202,7 +206,7 @@ impl State {
         s.combined = m;
         s.defined = true;
         s.counts = counts;
-        let how = decide::append::append_f32(matrices, 16, n, &m);
+        let how = decide::append::append_f32(matrices, MATRIX_WIDTH, n, &m);
         match how {
             Append::Kept => Answered {
                 state: s,
@@ -240,7 +244,7 @@ impl State {
                 answer: Answer::ShortData(64),
             };
         }
-        if !decide::judge::holds(self.counts.matrices, 0, areas::room_of(16, matrices.len())) {
+        if !decide::judge::holds(self.counts.matrices, 0, areas::room_of(MATRIX_WIDTH, matrices.len())) {
             return Answered {
                 state: self,
                 answer: Answer::ShortArea(1),
@@ -271,7 +275,7 @@ impl State {
                 answer: Answer::ShortData(64),
             };
         }
-        if !decide::judge::holds(self.counts.matrices, 0, areas::room_of(16, matrices.len())) {
+        if !decide::judge::holds(self.counts.matrices, 0, areas::room_of(MATRIX_WIDTH, matrices.len())) {
             return Answered {
                 state: self,
                 answer: Answer::ShortArea(1),
@@ -291,7 +295,7 @@ impl State {
                 answer: Answer::BadState,
             };
         }
-        if !decide::judge::holds(self.counts.matrices, 0, areas::room_of(16, matrices.len())) {
+        if !decide::judge::holds(self.counts.matrices, 0, areas::room_of(MATRIX_WIDTH, matrices.len())) {
             return Answered {
                 state: self,
                 answer: Answer::ShortArea(1),
@@ -311,14 +315,14 @@ impl State {
 
     // The state with the viewport v, or as given where table 2 has no room for it. Asks for what has been judged by then.
     fn viewport_to(self, v: [f32; 6], viewports: &mut [f32]) -> Answered
-        requires { ⌜ (self .counts .viewports ≤ 1048576) × (self .counts .viewports ≤ room 6 (length (now viewports))) ⌝ }
+        requires { ⌜ (self .counts .viewports ≤ most) × (self .counts .viewports ≤ room viewportWidth (length (now viewports))) ⌝ }
         ensures { λ r. ⌜ outcome r (now (viewports .exit)) ≡ carry area2 (viewing self (tableIn viewportArea (self .counts) (now (viewports .entry))) v) self (now (viewports .entry)) ⌝ }
     {
         let mut counts = self.counts;
         let n = counts.viewports;
         let mut s = self;
         s.viewport = v;
-        let how = decide::append::append_f32(viewports, 6, n, &v);
+        let how = decide::append::append_f32(viewports, VIEWPORT_WIDTH, n, &v);
         match how {
             Append::Kept => Answered {
                 state: s,
@@ -355,7 +359,7 @@ impl State {
                 answer: Answer::ShortData(16),
             };
         }
-        if !decide::judge::holds(self.counts.viewports, 0, areas::room_of(6, viewports.len())) {
+        if !decide::judge::holds(self.counts.viewports, 0, areas::room_of(VIEWPORT_WIDTH, viewports.len())) {
             return Answered {
                 state: self,
                 answer: Answer::ShortArea(2),

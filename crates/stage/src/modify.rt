@@ -3,7 +3,8 @@ ghost use mathlib.Core.Path.{_≡_};
 ghost use Prim.Native.Nat.{_<_};
 ghost use lib.ListN.{length};
 ghost use Rattle.areas.specs.Area.{room};
-ghost use Rattle.change.specs.Judged.{rowRoom};
+ghost use Rattle.areas.specs.Widths.{scaleWidth};
+ghost use Rattle.change.specs.Steps.{rowRoom};
 ghost use Rattle.stage.specs.Plan.{outcome, carry, nothing, rowTable, indexArea, tableIn};
 ghost use Rattle.stage.specs.Modify.{changed, modifyMeans, inkPlan};
 ghost use Rattle.stage.specs.Steps.{modifyAnswer, countsTo};
@@ -11,6 +12,8 @@ ghost use Rattle.stage.specs.With.{withCounts};
 use crate::Answer;
 use crate::Answered;
 use crate::State;
+use areas::widths::INDEX_WIDTH;
+use areas::widths::SCALE_WIDTH;
 use change::Change;
 use change::judge::Moved;
 use change::judge::Refusal;
@@ -33,11 +36,11 @@ fn answer_of(r: Refusal, slot: u32, attribute: u32) -> Answer
 impl State {
     // What the judge of a change looks at of tables 3 and 7, whose areas have so many numbers.
     fn tables37(self, scales: usize, floats: usize, words: usize) -> Tables
-        ensures { λ r. ⌜ r ≡ record { scales = self .counts .scales; scaleroom = room 4 scales; rows = self .counts .rows; rowroom = rowRoom floats words; unit = self .unit } ⌝ }
+        ensures { λ r. ⌜ r ≡ record { scales = self .counts .scales; scaleroom = room scaleWidth scales; rows = self .counts .rows; rowroom = rowRoom floats words; unit = self .unit } ⌝ }
     {
         Tables {
             scales: self.counts.scales,
-            scaleroom: areas::room_of(4, scales),
+            scaleroom: areas::room_of(SCALE_WIDTH, scales),
             rows: self.counts.rows,
             rowroom: change::judge::row_room(floats, words),
             unit: self.unit,
@@ -143,7 +146,7 @@ impl State {
                 answer: Answer::ShortArea(7),
             };
         }
-        if !decide::judge::holds(used, 0, areas::room_of(1, indices.len())) {
+        if !decide::judge::holds(used, 0, areas::room_of(INDEX_WIDTH, indices.len())) {
             return Answered {
                 state: self,
                 answer: Answer::ShortArea(8),

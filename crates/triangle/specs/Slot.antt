@@ -5,7 +5,8 @@ use mathlib.Core.List.{List, [], _∷_}
 use lib.ListN.{getD}
 use lib.Dec.{ltb}
 use Rattle.numbers.specs.Choice.{pick}
-use Rattle.decide.specs.Family.{Family, flag}
+use Rattle.decide.specs.declared.family.Family.{Family}
+use Rattle.decide.specs.Family.{flag}
 
 -- 1 for yes, 0 for no
 abbrev pub bit : Bool → ℕ

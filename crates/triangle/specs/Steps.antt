@@ -8,7 +8,7 @@ use lib.Dec.{leb, ltb, eqb}
 use Rattle.numbers.specs.Choice.{pick, unless}
 use Rattle.areas.specs.Area.{room, part, matches}
 use Rattle.areas.specs.Widths.{indexWidth, runWidth, settingsWide, startField, countField}
-use Rattle.decide.specs.Family.{Family}
+use Rattle.decide.specs.declared.family.Family.{Family}
 use Rattle.triangle.specs.declared.run.Settings.{Settings}
 use Rattle.triangle.specs.declared.run.Last.{Last}
 use Rattle.triangle.specs.declared.slot.Corner.{Corner}

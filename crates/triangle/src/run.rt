@@ -7,6 +7,9 @@ ghost use Rattle.areas.specs.Area.{part, put, matches};
 ghost use Rattle.areas.specs.Widths.{runWidth, settingsWide};
 ghost use Rattle.triangle.specs.Run.{settings, runOf};
 ghost use Rattle.triangle.specs.Steps.{six, seen, lastOf};
+use areas::widths::COUNT_FIELD;
+use areas::widths::RUN_WIDTH;
+use areas::widths::START_FIELD;
 
 // Cull and unclipped are 0 or 1.
 pub struct Settings {
@@ -61,8 +64,8 @@ pub fn run_at(runs: &[u32], at: usize, q: Settings) -> Last
 {
     Last {
         used: true,
-        start: runs[at + 6],
-        count: runs[at + 7],
+        start: runs[at + START_FIELD],
+        count: runs[at + COUNT_FIELD],
         same: run_is(runs, at, q),
     }
 }
@@ -79,7 +82,7 @@ pub fn last_run(runs: &[u32], used: u32, q: Settings) -> Last
             same: false,
         };
     }
-    run_at(runs, areas::place(8, used - 1), q)
+    run_at(runs, areas::place(RUN_WIDTH, used - 1), q)
 }
 
 // A run written at a place. Asks for room, which a draw has judged before it writes: a test of each index would cost.
@@ -93,6 +96,6 @@ pub fn put_run(runs: &mut [u32], at: usize, q: Settings, start: u32, count: u32)
     runs[at + 3] = q.depth;
     runs[at + 4] = q.cull;
     runs[at + 5] = q.unclipped;
-    runs[at + 6] = start;
-    runs[at + 7] = count;
+    runs[at + START_FIELD] = start;
+    runs[at + COUNT_FIELD] = count;
 }

@@ -5,6 +5,8 @@ ghost use Prim.Native.Nat.{_+_};
 ghost use lib.Dec.{leb};
 ghost use Rattle.areas.specs.Area.{room};
 ghost use Rattle.triangle.specs.Steps.{drawTables, closes, drawJudged, drawSlots, drawAreas, drawLast};
+use areas::widths::INDEX_WIDTH;
+use areas::widths::RUN_WIDTH;
 use crate::run::Last;
 use crate::slot::Corner;
 
@@ -50,7 +52,7 @@ fn ends(last: Last, indices: u32) -> bool
 }
 
 // Whether an area of `len` numbers has room for `used` entries of so many numbers, and for `more`.
-fn roomy(used: u32, more: u32, width: usize, len: usize) -> bool
+fn roomy(used: u32, more: u32, width: u32, len: usize) -> bool
     ensures { λ r. ⌜ r ≡ leb (used + more) (room width len) ⌝ }
 {
     decide::judge::holds(used, more, areas::room_of(width, len))
@@ -61,8 +63,8 @@ fn judge_last(t: Tables, last: Last) -> Verdict
     ensures { λ r. ⌜ r ≡ drawLast t last ⌝ }
 {
     let grows = last.used & last.same;
-    let eight = roomy(t.indices, 3, 1, t.indexlen);
-    let nine = grows | roomy(t.runs, 1, 8, t.runlen);
+    let eight = roomy(t.indices, 3, INDEX_WIDTH, t.indexlen);
+    let nine = grows | roomy(t.runs, 1, RUN_WIDTH, t.runlen);
     if !ends(last, t.indices) {
         return Verdict::Unsound;
     }
@@ -82,10 +84,10 @@ fn judge_last(t: Tables, last: Last) -> Verdict
 fn judge_areas(t: Tables, last: Last) -> Verdict
     ensures { λ r. ⌜ r ≡ drawAreas t last ⌝ }
 {
-    if !roomy(t.indices, 0, 1, t.indexlen) {
+    if !roomy(t.indices, 0, INDEX_WIDTH, t.indexlen) {
         return Verdict::Short(8);
     }
-    if !roomy(t.runs, 0, 8, t.runlen) {
+    if !roomy(t.runs, 0, RUN_WIDTH, t.runlen) {
         return Verdict::Short(9);
     }
     judge_last(t, last)

@@ -6,12 +6,21 @@ ghost use lib.ListN.{length};
 ghost use Rattle.areas.specs.Area.{put};
 ghost use Rattle.areas.specs.Widths.{floatWidth, wordWidth};
 ghost use Rattle.vertex.specs.Vertices.{floatsOf, wordsOf, slotOf};
+use areas::widths::COLOUR_WORD;
+use areas::widths::FOG_WORD;
+use areas::widths::LIGHTS_WORD;
+use areas::widths::LIGHT_WORD;
+use areas::widths::LOOKAT_WORD;
+use areas::widths::MATRIX_WORD;
+use areas::widths::SCALE_WORD;
+use areas::widths::TEXGEN_WORD;
+use areas::widths::VIEWPORT_WORD;
 use layout::records::Vertex;
 
 // How many numbers a row has in each of its two areas.
-pub const FLOATS: usize = 9;
+pub const FLOATS: usize = areas::widths::FLOAT_WIDTH as usize;
 
-pub const WORDS: usize = 10;
+pub const WORDS: usize = areas::widths::WORD_WIDTH as usize;
 
 // What every row of a load shares: the numbers of its table entries, and the viewport's scale and translation for z.
 pub struct Shared {
@@ -60,15 +69,15 @@ pub fn store_words(words: &mut [u32], at: usize, e: Shared, v: Vertex)
     ensures { λ _. ⌜ now (words .exit) ≡ put (now (words .entry)) at (wordsOf e v) ⌝ }
 {
     words[at] = 0;
-    words[at + 1] = e.matrix;
-    words[at + 2] = e.viewport;
-    words[at + 3] = e.scale;
-    words[at + 4] = v.colour;
-    words[at + 5] = e.light;
-    words[at + 6] = e.lights;
-    words[at + 7] = e.texgen;
-    words[at + 8] = e.fog;
-    words[at + 9] = e.lookat;
+    words[at + MATRIX_WORD] = e.matrix;
+    words[at + VIEWPORT_WORD] = e.viewport;
+    words[at + SCALE_WORD] = e.scale;
+    words[at + COLOUR_WORD] = v.colour;
+    words[at + LIGHT_WORD] = e.light;
+    words[at + LIGHTS_WORD] = e.lights;
+    words[at + TEXGEN_WORD] = e.texgen;
+    words[at + FOG_WORD] = e.fog;
+    words[at + LOOKAT_WORD] = e.lookat;
 }
 
 // What the slot of `v` gets, its position taken through m.

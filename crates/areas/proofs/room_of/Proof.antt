@@ -16,5 +16,8 @@ returns-2 c = search needs
 returns-3 : tie.Need-returns-3
 returns-3 c = search needs
 
+cast-most : tie.Need-cast-most
+cast-most c = search needs
+
 pub room-of-spec : {M : Type 1} → statement M
-room-of-spec = tie.close (tie.spec returns div-n returns-2 returns-3)
+room-of-spec = tie.close (tie.spec returns div-n cast-most returns-2 returns-3)

@@ -8,7 +8,8 @@ use native.Mathlib.Omega.{arith}
 use Prim.Native.Nat.{ℕ}
 use mathlib.Core.List.{List, [], _∷_}
 use denote.Ref.{now}
-use Rattle.decide.specs.Family.{Family, familyOf}
+use Rattle.decide.specs.declared.family.Family.{Family}
+use Rattle.decide.specs.Family.{familyOf}
 use Rattle.triangle.specs.Steps.{sidesOf}
 use borrow.Author.Needs.{needs}
 use Rattle.stage.proofs.State.draw_tri.Statement.{statement}
