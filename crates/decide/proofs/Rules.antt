@@ -20,14 +20,12 @@ and-right true b e = e
 and-right false b e = absurd (false≢true e)
 
 pub made-load : (load : Bool) (m old : List (List Float)) → load ≡ true → m ≡ made load m old
-unfolding made
-made-load true m old e = refl
-made-load false m old e = absurd (false≢true e)
+unfolding made pick
+made-load load m old e = rw e
 
 pub made-product : (load : Bool) (m old : List (List Float)) → load ≡ false → times m old ≡ made load m old
-unfolding made
-made-product true m old e = absurd (false≢true (sym e))
-made-product false m old e = refl
+unfolding made pick
+made-product load m old e = rw e
 
 pub push-room : (push : Bool) (d : ℕ) → push && ltb d 32 ≡ true → d < 32
 push-room push d e = ltb-true d 32 (and-right push (ltb d 32) e)

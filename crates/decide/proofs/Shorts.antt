@@ -8,8 +8,8 @@ use lib.Dec.{leb}
 use borrow.Author.Tests.{not-true, not-false, le-leb, lt-leb}
 use Rattle.numbers.specs.Choice.{unless}
 use Rattle.decide.specs.declared.judge.Fill.{Fill}
-use Rattle.decide.specs.Judge.{Lent, firstShort}
-use Rattle.decide.specs.Steps.{fillOf, shortOf}
+use Rattle.decide.specs.Judge.{Lent}
+use Rattle.decide.specs.Steps.{firstShort, fillOf, shortOf}
 use Rattle.decide.proofs.Rules.{reaches-in}
 
 -- the table k does not fit: it is the first

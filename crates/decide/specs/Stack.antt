@@ -1,6 +1,6 @@
 -- The rules of the model stack and of the geometry mode word. Definitions only.
 use Prim.Native.Nat.{ℕ, _+_, _-_, max}
-use mathlib.Core.Bool.{Bool, true, false, not, _&&_, Bool·beq}
+use mathlib.Core.Bool.{Bool, not, _&&_, Bool·beq}
 use mathlib.Core.List.{List}
 use lib.Bits.{bitAnd, bitOr}
 use lib.Dec.{ltb}
@@ -12,8 +12,7 @@ use Rattle.decide.specs.Family.{lit}
 
 -- data, or data times what stood there
 unfoldable pub made : Bool → List (List Float) → List (List Float) → List (List Float)
-made true m old = m
-made false m old = times m old
+made load m old = pick load m (times m old)
 
 -- the depth after a push, which is dropped at 32
 unfoldable pub pushed : Bool → ℕ → ℕ

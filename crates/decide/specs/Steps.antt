@@ -1,10 +1,10 @@
 -- What serves private steps of the code only: no promise of a command is said in these words. Definitions only.
 use Prim.Native.Nat.{ℕ, _+_}
 use mathlib.Core.Bool.{Bool, not}
-use mathlib.Core.List.{List}
+use mathlib.Core.List.{List, [], _∷_}
 use lib.Dec.{leb}
 use lib.Ieee.{Float, eq}
-use Rattle.numbers.specs.Choice.{pick}
+use Rattle.numbers.specs.Choice.{pick, unless}
 use Rattle.areas.specs.Area.{matches}
 use Rattle.areas.specs.Table.{table, Edit, counted, after}
 use Rattle.decide.specs.Append.{final, appended}
@@ -36,6 +36,11 @@ ended w n e l =
       how = pick (matches eq (final (t .used)) e) Kept (pick roomy Grew Full);
       area = pick roomy (after w n (appended t e) l) l;
     }
+
+-- the number of the first table that does not fit, or 0
+unfoldable pub firstShort : List Lent → ℕ
+firstShort [] = 0
+firstShort (t ∷ ts) = unless (fits t) (t .number) (firstShort ts)
 
 -- table k, as the code has it
 abbrev pub fillOf : ℕ → Fill → Lent

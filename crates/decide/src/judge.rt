@@ -5,8 +5,7 @@ ghost use lib.Dec.{leb};
 ghost use mathlib.Core.List.{[], _∷_};
 ghost use mathlib.Core.Bool.{_&&_};
 ghost use Rattle.decide.specs.Family.{flag};
-ghost use Rattle.decide.specs.Judge.{firstShort};
-ghost use Rattle.decide.specs.Steps.{fillOf, shortOf};
+ghost use Rattle.decide.specs.Steps.{firstShort, fillOf, shortOf};
 
 // Whether `need` bytes stand from place `at` on in data of `len` bytes.
 pub fn reaches(len: usize, at: usize, need: usize) -> bool

@@ -2,7 +2,7 @@
 -- is no code and no screen z where there must be none. Assumes nothing.
 use Prim.Native.Nat.{ℕ, zero, suc, _+_, _*_, _/_, _%_, _^_, _<_, _≤_}
 use mathlib.Core.Path.{_≡_, refl, ap, _∙_}
-use mathlib.Core.Bool.{Bool, true, false, _&&_, cond, and-false}
+use mathlib.Core.Bool.{Bool, true, false, _&&_, and-false}
 use mathlib.Core.List.{List, [], _∷_}
 use native.Mathlib.Omega.{arith}
 use native.Mathlib.Nat.{add-zero, div-div-eq-div-mul, pow-succ', zero-div}
@@ -17,11 +17,12 @@ use denote.Array.{Array, each}
 use denote.Floats.{FloatOf}
 use denote.Laws.{Is}
 use denote.Shadow.{shadow}
+use Rattle.numbers.specs.Choice.{pick}
 use Rattle.matrix.specs.declared.clip.ClipCode.{ClipCode}
 use Rattle.matrix.specs.declared.clip.ScreenZ.{ScreenZ}
 use Rattle.matrix.specs.Math
 use Rattle.matrix.specs.Math.{at, row, cell, identity, column, rowTimes, times, four, rows, laid}
-use Rattle.matrix.specs.Clip.{bitsOf, allFinite, codeOf, screenOf, depthOf}
+use Rattle.matrix.specs.Clip.{bitOf, bitsOf, allFinite, codeOf, screenOf, depthOf}
 
 -- ---- four of a kind
 
@@ -34,8 +35,8 @@ below-four P p q r s (suc (suc (suc zero))) h = s
 below-four P p q r s (suc (suc (suc (suc i)))) h = absurd (omega arith)
 
 -- element i of a list of four that a function gives is what it gives for i
-pick : {A : Type 0} (f : ℕ → A) (d : A) (i : ℕ) → i < 4 → getD (f 0 ∷ f 1 ∷ f 2 ∷ f 3 ∷ []) i d ≡ f i
-pick f d = below-four (λ i. getD (f 0 ∷ f 1 ∷ f 2 ∷ f 3 ∷ []) i d ≡ f i) refl refl refl refl
+numbered : {A : Type 0} (f : ℕ → A) (d : A) (i : ℕ) → i < 4 → getD (f 0 ∷ f 1 ∷ f 2 ∷ f 3 ∷ []) i d ≡ f i
+numbered f d = below-four (λ i. getD (f 0 ∷ f 1 ∷ f 2 ∷ f 3 ∷ []) i d ≡ f i) refl refl refl refl
 
 -- the four elements from place i on, one by one or as a part
 quad : {A : Type 0} (d : A) (l : List A) (i : ℕ) → i + 4 ≤ length l
@@ -130,12 +131,12 @@ held-square m vs p =
 -- number j of a row through a matrix
 pub at-row-times : (v : List Float) (m : List (List Float)) (j : ℕ) → j < 4 → at (rowTimes v m) j ≡ column v m j
 unfolding rowTimes
-at-row-times v m j h = pick (column v m) nan j h
+at-row-times v m j h = numbered (column v m) nan j h
 
 -- row i of a product is row i of the first factor through the second
 pub row-times : (a b : List (List Float)) (i : ℕ) → i < 4 → row (times a b) i ≡ rowTimes (row a i) b
 unfolding times
-row-times a b i h = pick (λ (k : ℕ). rowTimes (row a k) b) [] i h
+row-times a b i h = numbered (λ (k : ℕ). rowTimes (row a k) b) [] i h
 
 -- number j of row i of a product
 pub cell-times : (a b : List (List Float)) (i j : ℕ) → i < 4 → j < 4 → cell (times a b) i j ≡ column (row a i) b j
@@ -145,14 +146,14 @@ cell-times a b i j h k = rw (row-times a b i h) (at-row-times (row a i) b j k)
 pub cell-rows : (f : List Float) (k i j : ℕ) → i < 4 → j < 4 → cell (rows f k) i j ≡ at f (k + 4 * i + j)
 unfolding rows
 cell-rows f k i j h l =
-    simp add-zero at (ap (λ (v : List Float). at v j) (pick (λ (n : ℕ). four f (k + 4 * n)) [] i h)) ∙ simp add-zero at (pick (λ (n : ℕ). at f (k + 4 * i + n)) nan j l)
+    simp add-zero at (ap (λ (v : List Float). at v j) (numbered (λ (n : ℕ). four f (k + 4 * n)) [] i h)) ∙ simp add-zero at (numbered (λ (n : ℕ). at f (k + 4 * i + n)) nan j l)
 
 -- ---- the clip code
 
 -- a list of tests as a number, the first test its lowest bit
 abbrev pub weigh : List Bool → ℕ
 weigh [] = 0
-weigh (b ∷ bs) = cond b 1 0 + 2 * weigh bs
+weigh (b ∷ bs) = bitOf b 1 + 2 * weigh bs
 
 -- the six tests of a position
 abbrev pub tests : List Float → List Bool
@@ -166,12 +167,14 @@ tests p =
     ∷ []
 
 -- a bit of weight k is k times the bit
-bit-times : (b : Bool) (k : ℕ) → cond b k 0 ≡ cond b 1 0 * k
+bit-times : (b : Bool) (k : ℕ) → bitOf b k ≡ bitOf b 1 * k
+unfolding pick
 bit-times true k = omega arith
 bit-times false k = omega arith
 
 -- a bit is 0 or 1
-bit-small : (b : Bool) → cond b 1 0 < 2
+bit-small : (b : Bool) → bitOf b 1 < 2
+unfolding pick
 bit-small true = omega arith
 bit-small false = omega arith
 
@@ -181,7 +184,8 @@ weigh-small [] = omega arith
 weigh-small (b ∷ bs) = rw (pow-succ' 2 (length bs)) (omega (arith, weigh-small bs, bit-small b))
 
 -- bit k of the weight is 1 where test k holds, and 0 elsewhere and past the last
-pub weigh-bit : (bs : List Bool) (k : ℕ) → weigh bs / 2 ^ k % 2 ≡ cond (getD bs k false) 1 0
+pub weigh-bit : (bs : List Bool) (k : ℕ) → weigh bs / 2 ^ k % 2 ≡ bitOf (getD bs k false) 1
+unfolding pick
 weigh-bit [] k = rw (zero-div (2 ^ k))
 weigh-bit (b ∷ bs) zero = omega (arith, bit-small b)
 weigh-bit (b ∷ bs) (suc k) =
@@ -198,13 +202,14 @@ pub bits-small : (p : List Float) → bitsOf p < 64
 bits-small p = rw bits-weigh (weigh-small (tests p))
 
 -- bit k is 1 where test k holds, and 0 elsewhere
-pub bits-test : (p : List Float) (k : ℕ) → bitsOf p / 2 ^ k % 2 ≡ cond (getD (tests p) k false) 1 0
+pub bits-test : (p : List Float) (k : ℕ) → bitsOf p / 2 ^ k % 2 ≡ bitOf (getD (tests p) k false) 1
 bits-test p k = rw bits-weigh (weigh-bit (tests p) k)
 
 -- ---- where there is a code, and a screen z
 
 -- a record made by a test says what the test said
-made : {A : Type 0} (some : A → Bool) (b : Bool) (x y : A) → some x ≡ true → some y ≡ false → some (cond b x y) ≡ b
+made : {A : Type 0} (some : A → Bool) (b : Bool) (x y : A) → some x ≡ true → some y ≡ false → some (pick b x y) ≡ b
+unfolding pick
 made some true x y p q = p
 made some false x y p q = q
 

@@ -1,17 +1,18 @@
 -- The clip code and the screen z of a position in clip space, x y z w. Definitions only.
 use Prim.Native.Nat.{ℕ, _+_}
 use mathlib.Core.List.{List}
-use mathlib.Core.Bool.{Bool, true, false, _&&_, cond}
+use mathlib.Core.Bool.{Bool, true, false, _&&_}
 use lib.IntN.{pos}
 use lib.Ieee.{Float, fin, binary64, add, mul, div, neg, lt, ne}
 use lib.Ieee.Scale.{finite}
+use Rattle.numbers.specs.Choice.{pick}
 use Rattle.matrix.specs.Math.{at, zero}
 use Rattle.matrix.specs.declared.clip.ClipCode.{ClipCode}
 use Rattle.matrix.specs.declared.clip.ScreenZ.{ScreenZ}
 
 -- the bit of weight k, set if b
 abbrev pub bitOf : Bool → ℕ → ℕ
-bitOf b k = cond b k 0
+bitOf b k = pick b k 0
 
 -- x < -w, x > w, y < -w, y > w, z < -w, z > w
 unfoldable pub bitsOf : List Float → ℕ
@@ -26,7 +27,7 @@ allFinite p = finite (at p 0) && finite (at p 1) && finite (at p 2) && finite (a
 -- no code where one of the four is not finite
 unfoldable pub codeOf : List Float → ClipCode
 unfolding bitsOf
-codeOf p = cond (allFinite p) (record { some = true; bits = bitsOf p }) (record { some = false; bits = 0 })
+codeOf p = pick (allFinite p) (record { some = true; bits = bitsOf p }) (record { some = false; bits = 0 })
 
 -- (z / w * scale + translation) * 1024, each operation rounded once to an f64
 unfoldable pub screenOf : List Float → Float → Float → Float
@@ -36,6 +37,6 @@ screenOf p scale translation = mul binary64 (add binary64 (mul binary64 (div bin
 unfoldable pub depthOf : List Float → Bool → Float → Float → ScreenZ
 unfolding screenOf
 depthOf p coded scale translation =
-    cond (coded && ne (at p 3) zero && finite (screenOf p scale translation))
+    pick (coded && ne (at p 3) zero && finite (screenOf p scale translation))
     (record { some = true; z = screenOf p scale translation })
     (record { some = false; z = zero })

@@ -1,17 +1,9 @@
 -- Matrices as lists of rows, and their products. Definitions only. Sums go from left to right, each operation rounded once to an f32.
 use Prim.Native.Nat.{ℕ, _+_}
-use mathlib.Core.Bool.{false}
 use mathlib.Core.List.{List, [], _∷_, _++_}
 use lib.ListN.{getD}
-use lib.IntN.{pos}
-use lib.Ieee.{Float, nan, fin, binary32, add, mul}
-
--- the numbers 0 and 1
-abbrev pub zero : Float
-zero = fin false 0 (pos 0)
-
-abbrev pub one : Float
-one = fin false 1 (pos 0)
+use lib.Ieee.{Float, nan, binary32, add, mul}
+pub use Rattle.numbers.specs.Length.{zero, one}
 
 -- number i of a row, and row i, and number j of row i of a matrix
 abbrev pub at : List Float → ℕ → Float

@@ -1,8 +1,7 @@
 // The clip code and the screen z of a position in clip space.
 ghost use mathlib.Core.Path.{_≡_};
-ghost use mathlib.Core.Bool.{cond};
 ghost use Prim.Native.Nat.{_≤_};
-ghost use Rattle.matrix.specs.Clip.{bitsOf, allFinite, codeOf, screenOf, depthOf};
+ghost use Rattle.matrix.specs.Clip.{bitOf, bitsOf, allFinite, codeOf, screenOf, depthOf};
 
 // Bits 0 to 5: x < -w, x > w, y < -w, y > w, z < -w, z > w. `some` is false, and `bits` 0, where there is no code.
 pub struct ClipCode {
@@ -17,7 +16,7 @@ pub struct ScreenZ {
 }
 
 fn bit(b: bool, k: u8) -> u8
-    ensures { λ r. ⌜ (r ≡ cond b k 0) × (r ≤ k) ⌝ }
+    ensures { λ r. ⌜ (r ≡ bitOf b k) × (r ≤ k) ⌝ }
 {
     if b { k } else { 0 }
 }

@@ -17,6 +17,7 @@ use lib.Ieee.Back.{round-whole}
 use lib.Ieee.Positive.{positive}
 use mir.Syntax.{Width}
 use mir.Val.{SFits, hbits}
+use Rattle.numbers.specs.Choice.{pick}
 use Rattle.numbers.specs.Ratio.{signed, below0, ofRatio, isRatio, parts, entry, exact}
 use Rattle.numbers.specs.Sqrt.{rootBy, rooted, sqrt}
 use Rattle.numbers.proofs.Halves.{signed-low, signed-high}
@@ -46,10 +47,12 @@ signed-range w h k = go (ltb h (2 ^ (w - 1))) (ltb→lt h (2 ^ (w - 1))) (nltb�
 
 -- the ends of 16 bits: 0, 32767, -32768 and -1
 pub half-ends : (signed 16 0 ≡ pos 0) × (signed 16 32767 ≡ pos 32767) × (signed 16 32768 ≡ negsuc 32767) × (signed 16 65535 ≡ negsuc 0)
+unfolding pick
 half-ends = (refl, refl, refl, refl)
 
 -- the ends of 8 bits: 0, 127, -128 and -1
 pub byte-ends : (signed 8 0 ≡ pos 0) × (signed 8 127 ≡ pos 127) × (signed 8 128 ≡ negsuc 127) × (signed 8 255 ≡ negsuc 0)
+unfolding pick
 byte-ends = (refl, refl, refl, refl)
 
 -- ---- fractions

@@ -3,26 +3,29 @@ use mathlib.Core.Path.{_≡_, refl, sym, ap, _∙_, subst}
 use Prim.Native.Nat.{ℕ, zero, suc, _-_, _^_, _≤_, _<_}
 use native.Mathlib.Nat.{zero-add}
 use native.Mathlib.Omega.{arith}
-use mathlib.Core.Bool.{Bool, cond}
+use mathlib.Core.Bool.{Bool}
 use lib.IntN.{ℤ, pos, negsuc, _-ℤ_}
 use lib.Dec.{ltb, leb, lt→ltb}
 use lib.Arith.{le→nltb, lt→nleb}
 use lib.Pow.{pow-pos}
 use lib.Ieee.{minus}
-use lib.Ieee.Bits.{is-true, cond-no}
+use lib.Ieee.Bits.{is-true, is-false, cond-no}
 use mir.Syntax.{Width}
 use mir.Val.{Fits, SFits, bits, hbits, toZ, ofZ}
 use mir.ValLaws.{bits-suc, pow-bits, toZ-ofZ, toZ-pos}
+use Rattle.numbers.specs.Choice.{pick}
 use Rattle.numbers.specs.Ratio.{signed}
 
 -- below the middle the number stands for itself
 pub signed-low : (w h : ℕ) → h < 2 ^ (w - 1) → signed w h ≡ pos h
-signed-low w h g = ap (λ (t : Bool). cond t (pos h) (minus h (2 ^ w))) (is-true (ltb h (2 ^ (w - 1))) (lt→ltb h (2 ^ (w - 1)) g))
+unfolding pick
+signed-low w h g = ap (λ (t : Bool). pick t (pos h) (minus h (2 ^ w))) (is-true (ltb h (2 ^ (w - 1))) (lt→ltb h (2 ^ (w - 1)) g))
 
 -- from the middle on 2 ^ w is taken off
 pub signed-high : (w h : ℕ) → 2 ^ (w - 1) ≤ h → h < 2 ^ w → signed w h ≡ negsuc (2 ^ w - suc h)
+unfolding pick
 signed-high w h g k =
-    cond-no (ltb h (2 ^ (w - 1))) (pos h) (minus h (2 ^ w)) (le→nltb h (2 ^ (w - 1)) g)
+    ap (λ (t : Bool). pick t (pos h) (minus h (2 ^ w))) (is-false (ltb h (2 ^ (w - 1))) (le→nltb h (2 ^ (w - 1)) g))
     ∙ cond-no (leb (2 ^ w) h) (pos (h - 2 ^ w)) (negsuc (2 ^ w - suc h)) (lt→nleb (2 ^ w) h k)
 
 minus-one : (k : ℕ) → negsuc 0 -ℤ pos k ≡ negsuc k

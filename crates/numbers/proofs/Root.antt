@@ -3,12 +3,13 @@ use mathlib.Core.Path.{_≡_, refl, sym, ap, _∙_, subst}
 use Prim.Native.Nat.{ℕ, zero, suc, _+_, _-_, _*_, _/_, _%_, _^_, _≤_, _<_, compare, Ordering, Ordering·lt, Ordering·eq, Ordering·gt}
 use native.Mathlib.Nat.{le-trans, le-of-eq, le-of-lt, div-mul-le-self, lt-of-lt-of-le, lt-of-le-of-lt, lt-of-not-le, not-le-of-lt, le-of-suc-le-suc, mul-comm, mul-assoc, mul-add, add-mul, mul-one, one-mul, mul-le-mul, mul-le-mul-right, mul-lt-mul-of-pos-right, mul-mul-mul-comm, pow-succ', div-eq-of-lt-le, div-lt-iff-lt-mul, zero-lt-suc, pow-suc}
 use native.Mathlib.Omega.{arith}
-use mathlib.Core.Bool.{Bool, true, false, not, cond}
+use mathlib.Core.Bool.{Bool, true, false, not}
 use lib.Dec.{T, isLe, isEq, leb, leb→le, nleb→lt, eqb→eq, eqb-refl, eqb}
 use lib.Arith.{lt-of-le-ne}
 use lib.Pow.{pow-pos}
 use lib.Ieee.{size, nearest}
 use lib.Ieee.Digits.{size-lt}
+use Rattle.numbers.specs.Choice.{pick}
 use Rattle.numbers.specs.Sqrt.{root, rootBy}
 
 -- ---- squares
@@ -52,7 +53,8 @@ next w = ap (λ (x : ℕ). x * x) (two w) ∙ mul-mul-mul-comm 2 (w + 1) 2 (w + 
     two : (w : ℕ) → 2 * w + 1 + 1 ≡ 2 * (w + 1)
     two w = omega arith
 
-floor-step : (n w : ℕ) → Floor (n / 4) w → (b : Bool) → (T b → (2 * w + 1) * (2 * w + 1) ≤ n) → (T (not b) → n < (2 * w + 1) * (2 * w + 1)) → Floor n (cond b (2 * w + 1) (2 * w))
+floor-step : (n w : ℕ) → Floor (n / 4) w → (b : Bool) → (T b → (2 * w + 1) * (2 * w + 1) ≤ n) → (T (not b) → n < (2 * w + 1) * (2 * w + 1)) → Floor n (pick b (2 * w + 1) (2 * w))
+unfolding pick
 floor-step n w ih true l g = (l tt, omega (arith, ih .1, next w))
 floor-step n w ih false l g = (omega (arith, ih .0, double w), g tt)
 

@@ -1,7 +1,8 @@
 -- The length of a direction, and what the direction is multiplied by. Definitions only.
-use mathlib.Core.Bool.{false, cond}
+use mathlib.Core.Bool.{false}
 use lib.IntN.{pos}
 use lib.Ieee.{Float, fin, binary32, add, mul, div, lt}
+use Rattle.numbers.specs.Choice.{pick}
 use Rattle.numbers.specs.Sqrt.{sqrt}
 
 -- the squares added left to right, each operation rounded once
@@ -22,4 +23,4 @@ one = fin false 1 (pos 0)
 
 -- 1 / l, or 0 where l is not above 0
 abbrev pub inverse : Float → Float
-inverse l = cond (lt zero l) (div binary32 one l) zero
+inverse l = pick (lt zero l) (div binary32 one l) zero

@@ -1,13 +1,14 @@
 -- Bits read with a sign; a fraction rounded once to a format; a matrix entry, and whether its rounding lost anything. Definitions only.
 use Prim.Native.Nat.{ℕ, _-_, _*_, _^_}
-use mathlib.Core.Bool.{Bool, true, false, cond, _&&_, Bool·beq}
+use mathlib.Core.Bool.{Bool, true, false, _&&_, Bool·beq}
 use lib.IntN.{ℤ, pos, negsuc, _+ℤ_, _*ℤ_, natAbs}
 use lib.Dec.{eqb, ltb}
 use lib.Ieee.{Float, nan, inf, fin, Format, binary32, up, down, round, minus}
+use Rattle.numbers.specs.Choice.{pick}
 
 -- w bits read as a number with a sign (two's complement): from 2 ^ (w - 1) on, 2 ^ w is taken off
 abbrev pub signed : ℕ → ℕ → ℤ
-signed w h = cond (ltb h (2 ^ (w - 1))) (pos h) (minus h (2 ^ w))
+signed w h = pick (ltb h (2 ^ (w - 1))) (pos h) (minus h (2 ^ w))
 
 -- the number is below 0
 abbrev pub below0 : ℤ → Bool

@@ -1,13 +1,14 @@
 -- The square root of IEEE 754 (5.4.1, squareRoot): the exact root, rounded once to the format, to nearest, ties to even. Definitions only.
 -- The root of -0 is -0, that of any other negative number, an infinity included, is a NaN.
 use Prim.Native.Nat.{ℕ, zero, suc, _+_, _-_, _*_, _/_, _^_, compare}
-use mathlib.Core.Bool.{true, false, cond}
+use mathlib.Core.Bool.{true, false}
 use lib.Dec.{leb}
 use lib.Ieee.{Float, nan, inf, fin, Format, prec, low, up, down, size, nearest, units}
+use Rattle.numbers.specs.Choice.{pick}
 
 -- r, or r + 1 where its square is still within n
 unfoldable pub step : ℕ → ℕ → ℕ
-step r n = cond (leb ((r + 1) * (r + 1)) n) (r + 1) r
+step r n = pick (leb ((r + 1) * (r + 1)) n) (r + 1) r
 
 -- The largest r with r * r ≤ n, for an n below 4 ^ d: one binary digit of the root for each two of n's. `Root` proves it.
 unfoldable pub root : ℕ → ℕ → ℕ

@@ -1,5 +1,6 @@
 -- `matrix::clip::screen_z` meets its contract. Assumes nothing.
 use borrow.Author.Needs.{needs}
+use Rattle.numbers.specs.Choice.{pick}
 use Rattle.matrix.specs.Clip.{depthOf}
 use Rattle.matrix.proofs.Constants.{zero32, zero64}
 use Rattle.matrix.proofs.clip.screen_z.Statement.{statement}
@@ -15,13 +16,13 @@ is-finite-f64-requires : tie.Need-is-finite-f64-requires
 is-finite-f64-requires c κs = search needs
 
 returns : tie.Need-returns
-unfolding depthOf
+unfolding depthOf pick
 returns c =
     let d = c .before in
     rw (← d .before .screen .ensures, ← d .is-finite-f64 .ensures, ← zero32, c .if1 .taken)
 
 returns-2 : tie.Need-returns-2
-unfolding depthOf
+unfolding depthOf pick
 returns-2 c =
     let d = c .before in
     rw (← d .before .screen .ensures, ← d .is-finite-f64 .ensures, ← zero32, c .if1 .left, zero32, zero64)
