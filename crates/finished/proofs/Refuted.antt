@@ -64,7 +64,7 @@ recoloured slot = modify slot 0x10 7
 
 -- the machine under the rules r is finished
 abbrev AllFinished : (Book → Rules) → Type 0
-AllFinished r = (x y : Areas) → Alike x y → (cs ds es : List Command) (n : ℕ) → Finished f3dex2 (under r (plan f3dex2 256)) 256 x y cs ds es n
+AllFinished r = (x y : Areas) → Alike x y → (cs ds es : List Command) (n : ℕ) → Finished (λ _. f3dex2) (under r (plan (λ _. f3dex2) (λ _. 256))) 256 x y cs ds es n
 
 -- the colour of a corner, and the material, of a triangle
 abbrev colourOf : ℕ → Triangle → ℕ
