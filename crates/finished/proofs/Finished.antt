@@ -145,7 +145,7 @@ module _ (F : ℕ → Family) (limit : State → ℕ) where
               used = λ i h. absurd (omega arith);
               held = λ k e. absurd (none-marked 256 k e);
               reached = λ j h. absurd (omega arith);
-              eight = λ j h. absurd (omega arith);
+              whole = λ j h. absurd (omega arith);
               count = refl;
               given = λ n h. absurd (omega arith);
             };

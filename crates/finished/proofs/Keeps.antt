@@ -267,7 +267,7 @@ module _ (F : ℕ → Family) (limit : State → ℕ) (seats : ℕ) (few : seats
           count = counted-then k (k .state) (edits89 (grow (triangle f (k .state) a b c)) (runEdit (k .runs .used) (length (k .indices .used)) six)) (I .count);
           ties = record {
             current = I .ties .current;
-            standing = drawn-keeps held (extended (k .runs .used) (length (k .indices .used)) six refl (I .ties .standing .reached) (I .ties .standing .eight) z) (swaps f (k .state .geometry)) refl;
+            standing = drawn-keeps held (extended (k .runs .used) (length (k .indices .used)) six refl (I .ties .standing .reached) (I .ties .standing .whole) z) (swaps f (k .state .geometry)) refl;
           };
         }))
 

@@ -51,13 +51,13 @@ module _ (o : ℕ) where
       ∙ settings-new rs q i (λ j l. h (suc j) (omega arith)) c
 
 -- every run has its numbers
-abbrev pub Eight : List (List ℕ) → Type 0
-Eight rs = (j : ℕ) → j < length rs → length (getD rs j []) ≡ runWidth
+abbrev pub Whole : List (List ℕ) → Type 0
+Whole rs = (j : ℕ) → j < length rs → length (getD rs j []) ≡ runWidth
 
 -- what a draw owes of the runs: rs before, qs after, n indices before it, its settings q
 pub record Extended (rs qs : List (List ℕ)) (n : ℕ) (q : List ℕ) : Type 0 where
   pub reached : Reached 0 qs (n + 3)
-  pub eight : Eight qs
+  pub whole : Whole qs
   pub old : (i : ℕ) → i + 3 ≤ n → settingsAt 0 qs i ≡ settingsAt 0 rs i
   pub new : settingsAt 0 qs n ≡ q
 
@@ -70,13 +70,13 @@ run-count q n c l =
     let e : countField ≡ length q + 1 = omega arith in
     ap (λ (k : ℕ). getD (runOf q n c) k 0) e ∙ getD-append-add q (n ∷ c ∷ []) 1 0
 
-extended-grow : (rs : List (List ℕ)) (n : ℕ) (q : List ℕ) → length q ≡ settingsWide → Reached 0 rs n → Eight rs → Extended rs (rs ++ runOf q n 3 ∷ []) n q
+extended-grow : (rs : List (List ℕ)) (n : ℕ) (q : List ℕ) → length q ≡ settingsWide → Reached 0 rs n → Whole rs → Extended rs (rs ++ runOf q n 3 ∷ []) n q
 extended-grow rs n q l h w =
     let a = run-start q n 3 l in
     let b = run-count q n 3 l in
     record {
       reached = snoc-cases (λ _ r. reach 0 r ≤ n + 3) rs (runOf q n 3) [] (λ j k. omega (arith, h j k)) (omega arith);
-      eight = snoc-cases (λ _ r. length r ≡ runWidth) rs (runOf q n 3) [] w (omega (arith, length-append q (n ∷ 3 ∷ [])));
+      whole = snoc-cases (λ _ r. length r ≡ runWidth) rs (runOf q n 3) [] w (omega (arith, length-append q (n ∷ 3 ∷ [])));
       old = λ i k. settings-grow 0 rs (runOf q n 3) i (and-first (leb (getD (runOf q n 3) startField 0) i) _ (lt-leb (getD (runOf q n 3) startField 0) i (omega arith)));
       new = settings-new 0 rs (runOf q n 3) n h (and-both _ _ (le-leb (getD (runOf q n 3) startField 0) n (omega arith)) (le-leb (n + 3) (reach 0 (runOf q n 3)) (omega arith)))
           ∙ take-at q (n ∷ 3 ∷ []) settingsWide l;
@@ -86,14 +86,14 @@ extended-grow rs n q l h w =
     and-first s t e = rw e
 
 -- the last run, with one triangle more
-module _ (rs : List (List ℕ)) (n : ℕ) (q : List ℕ) (h : Reached 0 rs n) (some-run : 0 < length rs) (same : take settingsWide (final rs) ≡ q) (full : reach 0 (final rs) ≡ n) (eight : Eight rs) where
+module _ (rs : List (List ℕ)) (n : ℕ) (q : List ℕ) (h : Reached 0 rs n) (some-run : 0 < length rs) (same : take settingsWide (final rs) ≡ q) (full : reach 0 (final rs) ≡ n) (whole : Whole rs) where
   wide : length (final rs) ≡ runWidth
-  wide = eight (length rs - 1) (omega arith)
+  wide = whole (length rs - 1) (omega arith)
 
-  front-eight : Eight (take (length rs - 1) rs)
-  front-eight j l =
+  front-whole : Whole (take (length rs - 1) rs)
+  front-whole j l =
       let k : j < length rs - 1 = omega (arith, length-take-le (length rs - 1) rs (omega arith)) in
-      rw (getD-take (length rs - 1) rs j [] k) (eight j (omega arith))
+      rw (getD-take (length rs - 1) rs j [] k) (whole j (omega arith))
 
   r : List ℕ
   r = longer (final rs)
@@ -136,7 +136,7 @@ module _ (rs : List (List ℕ)) (n : ℕ) (q : List ℕ) (h : Reached 0 rs n) (s
       rw after
       (record {
         reached = snoc-cases (λ _ x. reach 0 x ≤ n + 3) front r [] (λ j l. omega (arith, front-reached j l)) (omega (arith, start, count));
-        eight = snoc-cases (λ _ x. length x ≡ runWidth) front r [] front-eight (simp length-set wide);
+        whole = snoc-cases (λ _ x. length x ≡ runWidth) front r [] front-whole (simp length-set wide);
         old = λ i l.
             let e : holds 0 r i ≡ holds 0 (final rs) i =
             rw (start, count, le-leb (i + 3) (reach 0 (final rs)) (omega arith), le-leb (i + 3) (getD (final rs) startField 0 + (getD (final rs) countField 0 + 3)) (omega arith)) in
@@ -145,7 +145,7 @@ module _ (rs : List (List ℕ)) (n : ℕ) (q : List ℕ) (h : Reached 0 rs n) (s
       })
 
 -- what a draw does to the runs, where they are closed
-pub extended : (rs : List (List ℕ)) (n : ℕ) (q : List ℕ) → length q ≡ settingsWide → Reached 0 rs n → Eight rs → closed rs n ≡ true
+pub extended : (rs : List (List ℕ)) (n : ℕ) (q : List ℕ) → length q ≡ settingsWide → Reached 0 rs n → Whole rs → closed rs n ≡ true
     → Extended rs (edit (runEdit rs n q) rs) n q
 unfolding runEdit sameRun closed r
 extended rs n q l h w c = pick-case (λ e. Extended rs (edit e rs) n q) (matches eqb (take settingsWide (final rs)) q) (λ e. grows (matches-eqb (take settingsWide (final rs)) q .0 e)) (λ _. extended-grow rs n q l h w)

@@ -14,7 +14,7 @@ use Rattle.finished.specs.Bench.{noCorner}
 use Rattle.finished.specs.Statement.{noTriangle}
 use Rattle.finished.proofs.Lists.{with-more, longer-at, none-marked, snoc-cases, set-cases}
 use Rattle.finished.proofs.Growing.{Sound, Grown, shown-stays, sound-stays}
-use Rattle.finished.proofs.Running.{Reached, Eight}
+use Rattle.finished.proofs.Running.{Reached, Whole}
 
 -- ---- the columns of the slots
 
@@ -107,7 +107,7 @@ pub record Standing (seats : ℕ) (t : Entries) (rows : List Row) (indices runs 
   -- each slot shows what the bench holds
   pub held : (k : ℕ) → isEver s k ≡ true → shown t (getD rows (rowIn s k) noRow) ≡ getD l k noCorner
   pub reached : Reached 0 runs (length indices)
-  pub eight : Eight runs
+  pub whole : Whole runs
   pub count : length indices ≡ 3 * length ts
   -- each triangle shows what the bench gave
   pub given : (n : ℕ) → n < length ts → triangleOf t rows indices runs n ≡ getD ts n noTriangle
@@ -140,7 +140,7 @@ module _ {seats : ℕ} {t : Entries} {rows : List Row} {indices runs : List (Lis
         used = I .used;
         held = λ k e. shown-stays (getD rows (rowIn s k) noRow) g (I .sound (rowIn s k) (I .below k e)) ∙ I .held k e;
         reached = I .reached;
-        eight = I .eight;
+        whole = I .whole;
         count = I .count;
         given = λ n h.
             shows-same _ _ _ _ _ _ _ _ n (λ i k. shown-stays (getD rows (named indices i) noRow) g (I .sound (named indices i) (I .used i (omega (arith, I .count))))) refl ∙ I .given n h;
@@ -175,7 +175,7 @@ module _ {seats : ℕ} {t : Entries} {rows : List Row} {indices runs : List (Lis
             (λ _. rw (getD-append-seam rows r [] noRow, getD-set-same l k (shown t r) noCorner (omega (arith, I .bench))))
             (λ j d e. rw (longer-at (with-more rows (r ∷ [])) noRow (rowIn s j) (I .below j e), getD-set-other l k j (shown t r) noCorner d) (I .held j e));
         reached = I .reached;
-        eight = I .eight;
+        whole = I .whole;
         count = I .count;
         given = λ n h.
             shows-same _ _ _ _ _ _ _ _ n (λ i m. ap (shown t) (longer-at (with-more rows (r ∷ [])) noRow (named indices i) (I .used i (omega (arith, I .count))))) refl ∙ I .given n h;
@@ -208,7 +208,7 @@ module _ {seats : ℕ} {t : Entries} {rows : List Row} {indices runs : List (Lis
           used = λ i h. rw len (I .used i h);
           held = λ j h. held-then j h (ℕ-discrete j k);
           reached = I .reached;
-          eight = I .eight;
+          whole = I .whole;
           count = I .count;
           given = λ n h.
               shows-same _ _ _ _ _ _ _ _ n (λ i m. ap (shown t) (getD-set-other rows (rowIn s k) (named indices i) r noRow (I .fresh k i lo dr (omega (arith, I .count))))) refl ∙ I .given n h;
@@ -230,7 +230,7 @@ module _ {seats : ℕ} {t : Entries} {rows : List Row} {indices runs : List (Lis
         used = I .used;
         held = I .held;
         reached = I .reached;
-        eight = I .eight;
+        whole = I .whole;
         count = I .count;
         given = I .given;
       }
