@@ -27,9 +27,9 @@ unmarked-then d k l h e = go (ℕ-discrete l k)
     go (no n) = (n, sym (getD-set-other d k l true false n) ∙ e)
 
 -- after the marks of three slots were set
-pub three-marked : (slots : ℕ) (d : List Bool) (a b c : ℕ) → slots ≤ length d → a < slots → b < slots → c < slots → (l : ℕ)
+pub three-marked : (seats : ℕ) (d : List Bool) (a b c : ℕ) → seats ≤ length d → a < seats → b < seats → c < seats → (l : ℕ)
     → getD (mark d (a ∷ b ∷ c ∷ [])) l false ≡ false → (l ≢ a) × (l ≢ b) × (l ≢ c) × (getD d l false ≡ false)
-three-marked slots d a b c h ha hb hc l e =
+three-marked seats d a b c h ha hb hc l e =
     let u3 = unmarked-then (set (set d a true) b true) c l (simp length-set (omega arith)) e in
     let u2 = unmarked-then (set d a true) b l (simp length-set (omega arith)) (u3 .1) in
     let u1 = unmarked-then d a l (omega arith) (u2 .1) in
@@ -47,7 +47,7 @@ rows3 s x y z = (rowIn s x ∷ []) ∷ (rowIn s y ∷ []) ∷ (rowIn s z ∷ [])
 abbrev pub withMarks : Columns → List Bool → Columns
 withMarks s d = record { row = s .row; ever = s .ever; loaded = s .loaded; drawn = d }
 
-module _ {slots : ℕ} {t : Entries} {rows : List Row} {indices runs : List (List ℕ)} {s : Columns} {l : List Corner} {ts : List Triangle} (I : Standing slots t rows indices runs s l ts)
+module _ {seats : ℕ} {t : Entries} {rows : List Row} {indices runs : List (List ℕ)} {s : Columns} {l : List Corner} {ts : List Triangle} (I : Standing seats t rows indices runs s l ts)
     (x y z : ℕ) (ex : isEver s x ≡ true) (ey : isEver s y ≡ true) (ez : isEver s z ≡ true) (q : List ℕ) (qs : List (List ℕ)) (X : Extended runs qs (length indices) q) where
   -- the corner at the n-th of the three new indices
   new-corner : (n : ℕ) → named (indices ++ rows3 s x y z) (3 * length ts + n) ≡ getD (getD (rows3 s x y z) n []) 0 0
@@ -65,17 +65,17 @@ module _ {slots : ℕ} {t : Entries} {rows : List Row} {indices runs : List (Lis
             ∷ (ap (λ (n : ℕ). shown t (getD rows n noRow)) (new-corner 1) ∙ I .held y ey) i
             ∷ (ap (λ (n : ℕ). shown t (getD rows n noRow)) (new-corner 2) ∙ I .held z ez) i
             ∷ [];
-        settings = (ap (settingsAt qs) (sym (I .count)) ∙ X .new) i;
+        settings = (ap (settingsAt 0 qs) (sym (I .count)) ∙ X .new) i;
       }
 
-  pub triangle-drawn : (d : List Bool) → slots ≤ length d → ((k : ℕ) → getD d k false ≡ false → (k ≢ x) × (k ≢ y) × (k ≢ z) × (isDrawn s k ≡ false))
-      → Standing slots t rows (indices ++ rows3 s x y z) qs (withMarks s d) l (ts ++ record { corners = getD l x noCorner ∷ getD l y noCorner ∷ getD l z noCorner ∷ []; settings = q } ∷ [])
+  pub triangle-drawn : (d : List Bool) → seats ≤ length d → ((k : ℕ) → getD d k false ≡ false → (k ≢ x) × (k ≢ y) × (k ≢ z) × (isDrawn s k ≡ false))
+      → Standing seats t rows (indices ++ rows3 s x y z) qs (withMarks s d) l (ts ++ record { corners = getD l x noCorner ∷ getD l y noCorner ∷ getD l z noCorner ∷ []; settings = q } ∷ [])
   unfolding cornerOf drawn-now
   triangle-drawn d few not-drawn =
       let len : length (indices ++ rows3 s x y z) ≡ length indices + 3 = length-append indices (rows3 s x y z) in
       record {
         full = record { row = I .full .row; ever = I .full .ever; loaded = I .full .loaded; drawn = few };
-        seats = I .seats;
+        bench = I .bench;
         live = I .live;
         within = I .within;
         below = I .below;
@@ -91,7 +91,7 @@ module _ {slots : ℕ} {t : Entries} {rows : List Row} {indices runs : List (Lis
             (three (λ j. getD (getD (rows3 s x y z) j []) 0 0 < length rows) (I .below x ex) (I .below y ey) (I .below z ez));
         held = I .held;
         reached = λ j h. rw len (X .reached j h);
-        eight = X .eight;
+        whole = X .whole;
         count = rw (len, length-append) (omega (arith, I .count));
         given = snoc-cases (λ n T. triangleOf t rows (indices ++ rows3 s x y z) qs n ≡ T) ts drawn-now noTriangle
             (λ n h.

@@ -8,7 +8,8 @@ use lib.ListN.{length, getD, length-replicate}
 use lib.Dec.{leb}
 use borrow.Author.Tests.{leb-true}
 use Rattle.areas.specs.Area.{room}
-use Rattle.decide.specs.declared.family.Family.{Family}
+use Rattle.areas.specs.Widths.{matrixWidth, viewportWidth}
+use Rattle.decide.specs.Family.{Family}
 use Rattle.change.specs.declared.Asked.{Asked}
 use Rattle.change.specs.declared.Asked.the-variants.{Known, Unknown}
 use Rattle.change.specs.Decoded.{decoded}
@@ -32,85 +33,85 @@ use Rattle.finished.proofs.Lists.{Longer, same, with-more, longer-lengt
 use Rattle.finished.proofs.Ties.{Inv}
 use Rattle.finished.proofs.Keeps.{Keeps, keeps}
 
-module _ (f : Family) (slots : ℕ) where
+module _ (F : ℕ → Family) (limit : State → ℕ) where
   -- ---- the bench, beside a book
 
   bench-on : List Command → Book → Bench → Bench
   bench-on [] k h = h
-  bench-on (c ∷ cs) k h = bench-on cs (turn (plan f slots c k) k) (obey f c (plan f slots c k) (k .state) h)
+  bench-on (c ∷ cs) k h = bench-on cs (turn (plan F limit c k) k) (obey F c (plan F limit c k) (k .state) h)
 
-  bench-book : (cs : List Command) (p : Port) (h : Bench) → Fits p → bench f (plan f slots) cs p h ≡ bench-on cs (book p) h
+  bench-book : (cs : List Command) (p : Port) (h : Bench) → Fits p → bench F (plan F limit) cs p h ≡ bench-on cs (book p) h
   unfolding bench bench-on book
   bench-book [] p h r = refl
   bench-book (c ∷ cs) p h r =
-      let s = step-book f slots c p r in
-      let g : Bench = obey f c (plan f slots c (book p)) (p .state) h in
-      bench-book cs (step (plan f slots) c p) g (s .0) ∙ ap (λ (k : Book). bench-on cs k g) (s .2)
+      let s = step-book F limit c p r in
+      let g : Bench = obey F c (plan F limit c (book p)) (p .state) h in
+      bench-book cs (step (plan F limit) c p) g (s .0) ∙ ap (λ (k : Book). bench-on cs k g) (s .2)
 
-  bench-append : (cs ds : List Command) (p : Port) (h : Bench) → bench f (plan f slots) (cs ++ ds) p h ≡ bench f (plan f slots) ds (run (plan f slots) cs p) (bench f (plan f slots) cs p h)
+  bench-append : (cs ds : List Command) (p : Port) (h : Bench) → bench F (plan F limit) (cs ++ ds) p h ≡ bench F (plan F limit) ds (run (plan F limit) cs p) (bench F (plan F limit) cs p h)
   unfolding bench run
   bench-append [] ds p h = refl
-  bench-append (c ∷ cs) ds p h = bench-append cs ds (step (plan f slots) c p) (obey f c (plan f slots c (book p)) (p .state) h)
+  bench-append (c ∷ cs) ds p h = bench-append cs ds (step (plan F limit) c p) (obey F c (plan F limit c (book p)) (p .state) h)
 
   -- ---- the bench's triangles only grow
 
-  act-longer : (c : Command) (s t : State) (h : Bench) → Longer (h .triangles) (act f c s t h .triangles)
+  act-longer : (f : Family) (c : Command) (s t : State) (h : Bench) → Longer (h .triangles) (act f c s t h .triangles)
   unfolding act modifies
-  act-longer (matrix flags bytes at) s t h = same (h .triangles)
-  act-longer (force bytes at) s t h = same (h .triangles)
-  act-longer (pop count) s t h = pick-case (λ (g : Bench). Longer (h .triangles) (g .triangles)) _ (λ _. same (h .triangles)) (λ _. same (h .triangles))
-  act-longer (viewport bytes at) s t h = same (h .triangles)
-  act-longer (geometry off on) s t h = same (h .triangles)
-  act-longer (texture tile level on sc tc) s t h = same (h .triangles)
-  act-longer (fog multiplier offset) s t h = same (h .triangles)
-  act-longer (number bytes) s t h = same (h .triangles)
-  act-longer (light slot bytes at) s t h = same (h .triangles)
-  act-longer (lookat slot bytes at) s t h = same (h .triangles)
-  act-longer (microcode to) s t h = same (h .triangles)
-  act-longer (load first count bytes at) s t h = same (h .triangles)
-  act-longer (cull first last) s t h = same (h .triangles)
-  act-longer (depth slot threshold) s t h = same (h .triangles)
-  act-longer (modify slot attribute value) s t h = modified-longer (decoded attribute value)
+  act-longer f (matrix flags bytes at) s t h = same (h .triangles)
+  act-longer f (force bytes at) s t h = same (h .triangles)
+  act-longer f (pop count) s t h = pick-case (λ (g : Bench). Longer (h .triangles) (g .triangles)) _ (λ _. same (h .triangles)) (λ _. same (h .triangles))
+  act-longer f (viewport bytes at) s t h = same (h .triangles)
+  act-longer f (geometry off on) s t h = same (h .triangles)
+  act-longer f (texture tile level on sc tc) s t h = same (h .triangles)
+  act-longer f (fog multiplier offset) s t h = same (h .triangles)
+  act-longer f (number bytes) s t h = same (h .triangles)
+  act-longer f (light slot bytes at) s t h = same (h .triangles)
+  act-longer f (lookat slot bytes at) s t h = same (h .triangles)
+  act-longer f (microcode to) s t h = same (h .triangles)
+  act-longer f (load first count bytes at) s t h = same (h .triangles)
+  act-longer f (cull first last) s t h = same (h .triangles)
+  act-longer f (depth slot threshold) s t h = same (h .triangles)
+  act-longer f (modify slot attribute value) s t h = modified-longer (decoded attribute value)
     where
       modified-longer : (a : Asked) → Longer (h .triangles) (modifies a slot h .triangles)
       modified-longer Unknown = same (h .triangles)
       modified-longer (Known c) = same (h .triangles)
-  act-longer (draw a b c material mode colour prim) s t h =
+  act-longer f (draw a b c material mode colour prim) s t h =
       pick-case (λ (g : Bench). Longer (h .triangles) (g .triangles)) _ (λ _. same (h .triangles)) (λ _. with-more (h .triangles) _)
-  act-longer (ink colour) s t h = same (h .triangles)
+  act-longer f (ink colour) s t h = same (h .triangles)
 
-  obey-longer : (c : Command) (q : Plan) (s : State) (h : Bench) → Longer (h .triangles) (obey f c q s h .triangles)
+  obey-longer : (c : Command) (q : Plan) (s : State) (h : Bench) → Longer (h .triangles) (obey F c q s h .triangles)
   unfolding obey
   obey-longer c (refuse n vs) s h = same (h .triangles)
-  obey-longer c (does vs t e) s h = act-longer c s t h
+  obey-longer c (does vs t e) s h = act-longer (F (s .microcode)) c s t h
 
   longer-trans : {A : Type 0} {l m n : List A} → Longer l m → Longer m n → Longer l n
   longer-trans {A} {l} {m} {n} x y = record { more = x .more ++ y .more; is = y .is ∙ ap (λ (z : List A). z ++ y .more) (x .is) ∙ append-assoc l (x .more) (y .more) }
 
   -- WHAT THE BENCH GAVE IT NEVER TAKES BACK
-  pub bench-longer : (cs : List Command) (p : Port) (h : Bench) → Longer (h .triangles) (bench f (plan f slots) cs p h .triangles)
+  pub bench-longer : (cs : List Command) (p : Port) (h : Bench) → Longer (h .triangles) (bench F (plan F limit) cs p h .triangles)
   unfolding bench
   bench-longer [] p h = same (h .triangles)
   bench-longer (c ∷ cs) p h =
-      longer-trans (obey-longer c (plan f slots c (book p)) (p .state) h) (bench-longer cs (step (plan f slots) c p) (obey f c (plan f slots c (book p)) (p .state) h))
+      longer-trans (obey-longer c (plan F limit c (book p)) (p .state) h) (bench-longer cs (step (plan F limit) c p) (obey F c (plan F limit c (book p)) (p .state) h))
 
   -- ---- the invariant, through a sequence
 
-  module _ (few : slots ≤ 256) where
-    step-inv : (c : Command) (k : Book) (h : Bench) → Inv slots k h → Inv slots (turn (plan f slots c k) k) (obey f c (plan f slots c k) (k .state) h)
+  module _ (seats : ℕ) (inside : (s : State) → limit s ≤ seats) (few : seats ≤ 256) where
+    step-inv : (c : Command) (k : Book) (h : Bench) → Inv seats k h → Inv seats (turn (plan F limit c k) k) (obey F c (plan F limit c k) (k .state) h)
     unfolding turn obey Accepted
-    step-inv c k h I = go (plan f slots c k) (keeps f slots few k h I c)
+    step-inv c k h I = go (plan F limit c k) (keeps F limit seats few k (inside (k .state)) h I c)
       where
-        go : (q : Plan) → Accepted (Keeps f slots few k h I c) q → Inv slots (turn q k) (obey f c q (k .state) h)
+        go : (q : Plan) → Accepted (Keeps F limit seats few k (inside (k .state)) h I c) q → Inv seats (turn q k) (obey F c q (k .state) h)
         go (refuse n vs) K = I
         go (does vs t e) K = K
 
-    course-inv : (cs : List Command) (k : Book) (h : Bench) → Inv slots k h → Inv slots (course (plan f slots) cs k) (bench-on cs k h)
+    course-inv : (cs : List Command) (k : Book) (h : Bench) → Inv seats k h → Inv seats (course (plan F limit) cs k) (bench-on cs k h)
     unfolding course bench-on
     course-inv [] k h I = I
-    course-inv (c ∷ cs) k h I = course-inv cs (turn (plan f slots c k) k) (obey f c (plan f slots c k) (k .state) h) (step-inv c k h I)
+    course-inv (c ∷ cs) k h I = course-inv cs (turn (plan F limit c k) k) (obey F c (plan F limit c k) (k .state) h) (step-inv c k h I)
 
-    open-inv : (l : Areas) → Inv slots (opened-book l) (bench0 slots)
+    open-inv : (l : Areas) → Inv seats (opened-book l) (bench0 seats)
     unfolding opened blank bench0
     open-inv l =
         record {
@@ -134,7 +135,7 @@ module _ (f : Family) (slots : ℕ) where
                 loaded = rw (length-replicate 256 false) few;
                 drawn = rw (length-replicate 256 false) few;
               };
-              seats = length-replicate slots noCorner;
+              bench = length-replicate seats noCorner;
               live = λ k e. absurd (none-marked 256 k e);
               within = λ k e. absurd (none-marked 256 k e);
               below = λ k e. absurd (none-marked 256 k e);
@@ -144,7 +145,7 @@ module _ (f : Family) (slots : ℕ) where
               used = λ i h. absurd (omega arith);
               held = λ k e. absurd (none-marked 256 k e);
               reached = λ j h. absurd (omega arith);
-              eight = λ j h. absurd (omega arith);
+              whole = λ j h. absurd (omega arith);
               count = refl;
               given = λ n h. absurd (omega arith);
             };
@@ -155,105 +156,105 @@ module _ (f : Family) (slots : ℕ) where
 
     -- there is room for one entry in tables 1 and 2
     abbrev Opens : Areas → Type 0
-    Opens l = (1 ≤ room 16 (length (l .matrices))) × (1 ≤ room 6 (length (l .viewports)))
+    Opens l = (1 ≤ room matrixWidth (length (l .matrices))) × (1 ≤ room viewportWidth (length (l .viewports)))
 
-    after-inv : (l : Areas) → Opens l → (cs : List Command) → Inv slots (book (after (plan f slots) l cs)) (beside f (plan f slots) slots l cs)
+    after-inv : (l : Areas) → Opens l → (cs : List Command) → Inv seats (book (after (plan F limit) l cs)) (beside F (plan F limit) seats l cs)
     after-inv l o cs =
         let b = open-book l (o .0) (o .1) in
-        let I = course-inv cs (book (opening l)) (bench0 slots) (subst (λ (k : Book). Inv slots k (bench0 slots)) (sym (b .1)) (open-inv l)) in
-        rw (run-book f slots cs (opening l) (b .0) .1, bench-book cs (opening l) (bench0 slots) (b .0)) I
+        let I = course-inv cs (book (opening l)) (bench0 seats) (subst (λ (k : Book). Inv seats k (bench0 seats)) (sym (b .1)) (open-inv l)) in
+        rw (run-book F limit cs (opening l) (b .0) .1, bench-book cs (opening l) (bench0 seats) (b .0)) I
 
     -- areas of equal lengths, whatever stands in them, make no difference to what is in use, nor to the bench
     after-alike : (x y : Areas) → Alike x y → Opens x → Opens y → (cs : List Command)
-        → (book (after (plan f slots) x cs) ≡ book (after (plan f slots) y cs)) × (beside f (plan f slots) slots x cs ≡ beside f (plan f slots) slots y cs)
+        → (book (after (plan F limit) x cs) ≡ book (after (plan F limit) y cs)) × (beside F (plan F limit) seats x cs ≡ beside F (plan F limit) seats y cs)
     after-alike x y e ox oy cs =
         let a = open-book x (ox .0) (ox .1) in
         let b = open-book y (oy .0) (oy .1) in
         let q : book (opening x) ≡ book (opening y) = a .1 ∙ opened-alike x y e ∙ sym (b .1) in (
-          run-book f slots cs (opening x) (a .0) .1 ∙ ap (course (plan f slots) cs) q ∙ sym (run-book f slots cs (opening y) (b .0) .1),
-          bench-book cs (opening x) (bench0 slots) (a .0) ∙ ap (λ (k : Book). bench-on cs k (bench0 slots)) q ∙ sym (bench-book cs (opening y) (bench0 slots) (b .0)),
+          run-book F limit cs (opening x) (a .0) .1 ∙ ap (course (plan F limit) cs) q ∙ sym (run-book F limit cs (opening y) (b .0) .1),
+          bench-book cs (opening x) (bench0 seats) (a .0) ∙ ap (λ (k : Book). bench-on cs k (bench0 seats)) q ∙ sym (bench-book cs (opening y) (bench0 seats) (b .0)),
         )
 
     -- indices in use are three for each triangle of the bench
-    indices-are : (l : Areas) → Opens l → (cs : List Command) → after (plan f slots) l cs .state .counts .indices ≡ 3 * length (beside f (plan f slots) slots l cs .triangles)
+    indices-are : (l : Areas) → Opens l → (cs : List Command) → after (plan F limit) l cs .state .counts .indices ≡ 3 * length (beside F (plan F limit) seats l cs .triangles)
     unfolding book
     indices-are l o cs = let I = after-inv l o cs in sym (I .count .indices) ∙ I .ties .standing .count
 
     -- ---- after an opening that is refused
 
-    bench-shut : (cs : List Command) (p : Port) (h : Bench) → p .state .opened ≡ false → bench f (plan f slots) cs p h ≡ h
+    bench-shut : (cs : List Command) (p : Port) (h : Bench) → p .state .opened ≡ false → bench F (plan F limit) cs p h ≡ h
     unfolding bench obey book
     bench-shut [] p h e = refl
     bench-shut (c ∷ cs) p h e =
-        let q : step (plan f slots) c p ≡ p = shut f slots c p e in
-        bench-shut cs (step (plan f slots) c p) (obey f c (plan f slots c (book p)) (p .state) h) (ap (λ (r : Port). r .state .opened) q ∙ e)
-        ∙ ap (λ (n : Plan). obey f c n (p .state) h) (shut-plan f slots c (book p) e)
+        let q : step (plan F limit) c p ≡ p = shut F limit c p e in
+        bench-shut cs (step (plan F limit) c p) (obey F c (plan F limit c (book p)) (p .state) h) (ap (λ (r : Port). r .state .opened) q ∙ e)
+        ∙ ap (λ (n : Plan). obey F c n (p .state) h) (shut-plan F limit c (book p) e)
 
     -- nothing is recorded, by either
     refused-none : (l : Areas) → opening l ≡ record { state = blank false; areas = l } → (cs : List Command)
-        → (after (plan f slots) l cs .state .counts .indices ≡ 0) × (beside f (plan f slots) slots l cs .triangles ≡ [])
+        → (after (plan F limit) l cs .state .counts .indices ≡ 0) × (beside F (plan F limit) seats l cs .triangles ≡ [])
     unfolding blank bench0
     refused-none l e cs =
         let o : opening l .state .opened ≡ false = ap (λ (p : Port). p .state .opened) e in (
-          ap (λ (p : Port). p .state .counts .indices) (run-shut f slots cs (opening l) o ∙ e),
-          ap (λ (h : Bench). h .triangles) (bench-shut cs (opening l) (bench0 slots) o),
+          ap (λ (p : Port). p .state .counts .indices) (run-shut F limit cs (opening l) o ∙ e),
+          ap (λ (h : Bench). h .triangles) (bench-shut cs (opening l) (bench0 seats) o),
         )
 
     -- an opening is done, or refused
     by-opening : (P : Type 0) (l : Areas) → (Opens l → P) → (opening l ≡ record { state = blank false; areas = l } → P) → P
-    by-opening P l done refused = go (leb 1 (room 16 (length (l .matrices))) && leb 1 (room 6 (length (l .viewports)))) refl
+    by-opening P l done refused = go (leb 1 (room matrixWidth (length (l .matrices))) && leb 1 (room viewportWidth (length (l .viewports)))) refl
       where
-        go : (b : Bool) → leb 1 (room 16 (length (l .matrices))) && leb 1 (room 6 (length (l .viewports))) ≡ b → P
+        go : (b : Bool) → leb 1 (room matrixWidth (length (l .matrices))) && leb 1 (room viewportWidth (length (l .viewports))) ≡ b → P
         go true e =
-            let a : Bool = leb 1 (room 16 (length (l .matrices))) in
-            let b : Bool = leb 1 (room 6 (length (l .viewports))) in
-            done (leb-true 1 (room 16 (length (l .matrices))) (and-left a b e), leb-true 1 (room 6 (length (l .viewports))) (and-right a b e))
+            let a : Bool = leb 1 (room matrixWidth (length (l .matrices))) in
+            let b : Bool = leb 1 (room viewportWidth (length (l .viewports))) in
+            done (leb-true 1 (room matrixWidth (length (l .matrices))) (and-left a b e), leb-true 1 (room viewportWidth (length (l .viewports))) (and-right a b e))
         go false e = refused (open-refused l e)
 
     -- ---- companions
 
     -- INDICES IN USE ARE THREE FOR EACH TRIANGLE OF THE BENCH
-    pub three-each : (l : Areas) (cs : List Command) → after (plan f slots) l cs .state .counts .indices ≡ 3 * length (beside f (plan f slots) slots l cs .triangles)
+    pub three-each : (l : Areas) (cs : List Command) → after (plan F limit) l cs .state .counts .indices ≡ 3 * length (beside F (plan F limit) seats l cs .triangles)
     three-each l cs =
-        by-opening (after (plan f slots) l cs .state .counts .indices ≡ 3 * length (beside f (plan f slots) slots l cs .triangles)) l (λ o. indices-are l o cs)
+        by-opening (after (plan F limit) l cs .state .counts .indices ≡ 3 * length (beside F (plan F limit) seats l cs .triangles)) l (λ o. indices-are l o cs)
         (λ e. let z = refused-none l e cs in z .0 ∙ sym (ap (λ (t : List Triangle). 3 * length t) (z .1)))
 
     -- EACH TRIANGLE OF THE BENCH IS RECORDED, AND THE OTHER WAY ROUND
-    pub recorded-is : (l : Areas) (cs : List Command) → recorded (after (plan f slots) l cs) ≡ length (beside f (plan f slots) slots l cs .triangles)
+    pub recorded-is : (l : Areas) (cs : List Command) → recorded (after (plan F limit) l cs) ≡ length (beside F (plan F limit) seats l cs .triangles)
     recorded-is l cs = omega (arith, three-each l cs)
 
     -- WHAT AN ACCEPTED DRAW GIVES THE BENCH: the three slots' values and its settings, behind what it gave before
     pub when-drawn : (l : Areas) (cs : List Command) (a b c material mode colour prim : ℕ) (vs : List ℕ) (t : State) (e : Edits)
-        → plan f slots (draw a b c material mode colour prim) (book (after (plan f slots) l cs)) ≡ does vs t e
-        → both f (after (plan f slots) l cs .state .geometry) ≡ false
-        → beside f (plan f slots) slots l (cs ++ draw a b c material mode colour prim ∷ []) .triangles
-        ≡ beside f (plan f slots) slots l cs .triangles ++ given f (after (plan f slots) l cs .state) (beside f (plan f slots) slots l cs) a b c (material ∷ mode ∷ colour ∷ prim ∷ []) ∷ []
+        → plan F limit (draw a b c material mode colour prim) (book (after (plan F limit) l cs)) ≡ does vs t e
+        → both (F (after (plan F limit) l cs .state .microcode)) (after (plan F limit) l cs .state .geometry) ≡ false
+        → beside F (plan F limit) seats l (cs ++ draw a b c material mode colour prim ∷ []) .triangles
+        ≡ beside F (plan F limit) seats l cs .triangles ++ given (F (after (plan F limit) l cs .state .microcode)) (after (plan F limit) l cs .state) (beside F (plan F limit) seats l cs) a b c (material ∷ mode ∷ colour ∷ prim ∷ []) ∷ []
     unfolding bench obey act
     when-drawn l cs a b c material mode colour prim vs t e p q =
-        let s : State = after (plan f slots) l cs .state in
-        let h : Bench = beside f (plan f slots) slots l cs in
-        ap (λ (g : Bench). g .triangles) (bench-append cs (draw a b c material mode colour prim ∷ []) (opening l) (bench0 slots))
-        ∙ ap (λ (n : Plan). obey f (draw a b c material mode colour prim) n s h .triangles) p
-        ∙ ap (λ (g : Bench). g .triangles) (pick-false (both f (s .geometry)) h (withTriangle h (given f s h a b c (material ∷ mode ∷ colour ∷ prim ∷ []))) q)
+        let s : State = after (plan F limit) l cs .state in
+        let h : Bench = beside F (plan F limit) seats l cs in
+        ap (λ (g : Bench). g .triangles) (bench-append cs (draw a b c material mode colour prim ∷ []) (opening l) (bench0 seats))
+        ∙ ap (λ (n : Plan). obey F (draw a b c material mode colour prim) n s h .triangles) p
+        ∙ ap (λ (g : Bench). g .triangles) (pick-false (both (F (s .microcode)) (s .geometry)) h (withTriangle h (given (F (s .microcode)) s h a b c (material ∷ mode ∷ colour ∷ prim ∷ []))) q)
 
     -- A SLOT UNLOADED BY A MICROCODE CHANGE still has its row and counts as loaded since opening, and the bench keeps its slots
     pub unloaded-draws : (s : State) (to : Microcode) (i : ℕ) → (rowOf (switched s to) i ≡ rowOf s i) × (getD (switched s to .ever) i false ≡ getD (s .ever) i false)
     unfolding switched
     unloaded-draws s to i = (refl, refl)
 
-    pub bench-rests : (s t : State) (to : Microcode) (h : Bench) → act f (microcode to) s t h ≡ h
+    pub bench-rests : (f : Family) (s t : State) (to : Microcode) (h : Bench) → act f (microcode to) s t h ≡ h
     unfolding act
-    bench-rests s t to h = refl
+    bench-rests f s t to h = refl
 
     -- ---- the theorem
 
     -- what the bench gave by cs stands at the end of every continuation
-    stands-later : (l : Areas) → Opens l → (cs ds : List Command) (n : ℕ) → n < length (beside f (plan f slots) slots l cs .triangles)
-        → Stands (after (plan f slots) l (cs ++ ds)) n (gave (beside f (plan f slots) slots l cs) n)
+    stands-later : (l : Areas) → Opens l → (cs ds : List Command) (n : ℕ) → n < length (beside F (plan F limit) seats l cs .triangles)
+        → Stands (after (plan F limit) l (cs ++ ds)) n (gave (beside F (plan F limit) seats l cs) n)
     stands-later l o cs ds n h =
-        let e : beside f (plan f slots) slots l (cs ++ ds) ≡ bench f (plan f slots) ds (after (plan f slots) l cs) (beside f (plan f slots) slots l cs) = bench-append cs ds (opening l) (bench0 slots) in
-        let w : Longer (beside f (plan f slots) slots l cs .triangles) (beside f (plan f slots) slots l (cs ++ ds) .triangles) = rw e (bench-longer ds (after (plan f slots) l cs) (beside f (plan f slots) slots l cs)) in
-        let m : n < length (beside f (plan f slots) slots l (cs ++ ds) .triangles) = omega (arith, longer-length w) in
+        let e : beside F (plan F limit) seats l (cs ++ ds) ≡ bench F (plan F limit) ds (after (plan F limit) l cs) (beside F (plan F limit) seats l cs) = bench-append cs ds (opening l) (bench0 seats) in
+        let w : Longer (beside F (plan F limit) seats l cs .triangles) (beside F (plan F limit) seats l (cs ++ ds) .triangles) = rw e (bench-longer ds (after (plan F limit) l cs) (beside F (plan F limit) seats l cs)) in
+        let m : n < length (beside F (plan F limit) seats l (cs ++ ds) .triangles) = omega (arith, longer-length w) in
         record {
           in-use = rw (recorded-is l (cs ++ ds)) m;
           shows = after-inv l o (cs ++ ds) .ties .standing .given n m ∙ longer-at w noTriangle n h;
@@ -262,11 +263,11 @@ module _ (f : Family) (slots : ℕ) where
     alike-opens : (x y : Areas) → Alike x y → Opens x → Opens y
     alike-opens x y e o = rw (← (e .matrices), ← (e .viewports)) o
 
-    both-stand : (x y : Areas) → Alike x y → (cs ds es : List Command) (n : ℕ) → Finished f (plan f slots) slots x y cs ds es n
+    both-stand : (x y : Areas) → Alike x y → (cs ds es : List Command) (n : ℕ) → Finished F (plan F limit) seats x y cs ds es n
     both-stand x y e cs ds es n h =
-        let m : n < length (beside f (plan f slots) slots x cs .triangles) = rw (← (recorded-is x cs)) h in
-        let T : Triangle = gave (beside f (plan f slots) slots x cs) n in
-        by-opening (Stands (after (plan f slots) x (cs ++ ds)) n T × Stands (after (plan f slots) y (cs ++ es)) n T) x
+        let m : n < length (beside F (plan F limit) seats x cs .triangles) = rw (← (recorded-is x cs)) h in
+        let T : Triangle = gave (beside F (plan F limit) seats x cs) n in
+        by-opening (Stands (after (plan F limit) x (cs ++ ds)) n T × Stands (after (plan F limit) y (cs ++ es)) n T) x
         (λ o.
         let oy = alike-opens x y e o in
         let q = after-alike x y e o oy cs .1 in
@@ -274,9 +275,9 @@ module _ (f : Family) (slots : ℕ) where
         (λ r. absurd (omega (arith, ap length (refused-none x r cs .1))))
 
     -- what is in use, and so every answer, hangs on the areas' lengths alone
-    pub same-use : (x y : Areas) → Alike x y → Opens x → (cs : List Command) → book (after (plan f slots) x cs) ≡ book (after (plan f slots) y cs)
+    pub same-use : (x y : Areas) → Alike x y → Opens x → (cs : List Command) → book (after (plan F limit) x cs) ≡ book (after (plan F limit) y cs)
     same-use x y e o cs = after-alike x y e o (alike-opens x y e o) cs .0
 
 -- A RECORDED TRIANGLE IS FINISHED
 pub finished : Demand3
-finished f slots few x y e cs ds es n = both-stand f slots few x y e cs ds es n
+finished F limit seats inside few x y e cs ds es n = both-stand F limit seats inside few x y e cs ds es n

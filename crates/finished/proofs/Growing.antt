@@ -11,19 +11,24 @@ use lib.Dec.{eqb}
 use lib.IntN.{ℤ}
 use lib.Ieee.{Float}
 use borrow.Author.Tests.{eqb-false}
+use Rattle.areas.specs.Widths.{wordWidth, flagsWord, matrixWord, viewportWord, scaleWord, colourWord, lightWord, lightsWord, texgenWord, fogWord, lookatWord}
 use Rattle.stage.specs.Plan.{Row, pick}
 use Rattle.finished.specs.Shown.{Entries, fogShown, shownBy, rowWord, shown}
 use Rattle.finished.proofs.Lists.{Longer, longer-length, longer-at, longer-part}
 
--- a row has its ten words, and its table numbers are in use
+-- the table numbers among a row's words are in use
+pub record InUse (t : Entries) (word : ℕ → ℕ) : Type 0 where
+  pub matrix : word matrixWord < length (t .matrices)
+  pub viewport : word viewportWord < length (t .viewports)
+  pub scale : word scaleWord < length (t .scales)
+  pub lights : word lightWord + word lightsWord ≤ length (t .lights)
+  pub fog : word fogWord ≤ length (t .fogs)
+  pub lookat : word texgenWord ≢ 0 → word lookatWord < length (t .lookats)
+
+-- a row has its words, and its table numbers are in use
 pub record Sound (t : Entries) (r : Row) : Type 0 where
-  pub wide : length (r .words) ≡ 10
-  pub matrix : rowWord r 1 < length (t .matrices)
-  pub viewport : rowWord r 2 < length (t .viewports)
-  pub scale : rowWord r 3 < length (t .scales)
-  pub lights : rowWord r 5 + rowWord r 6 ≤ length (t .lights)
-  pub fog : rowWord r 8 ≤ length (t .fogs)
-  pub lookat : rowWord r 7 ≢ 0 → rowWord r 9 < length (t .lookats)
+  pub wide : length (r .words) ≡ wordWidth
+  pub in-use : InUse t (rowWord r)
 
 -- each table goes on
 pub record Grown (t u : Entries) : Type 0 where
@@ -49,28 +54,33 @@ lookat-stays {t} {u} g mode i h = go (eqb mode 0) refl
 
 pub shown-stays : {t u : Entries} (r : Row) → Grown t u → Sound t r → shown u r ≡ shown t r
 unfolding shown shownBy
-shown-stays {t} {u} r g s = λ i.
+shown-stays {t} {u} r g s =
+    let n = s .in-use in
+    λ i.
     record {
       floats = r .floats;
-      flags = rowWord r 0;
-      matrix = longer-at (g .matrices) [] (rowWord r 1) (s .matrix) i;
-      viewport = longer-at (g .viewports) [] (rowWord r 2) (s .viewport) i;
-      scale = longer-at (g .scales) [] (rowWord r 3) (s .scale) i;
-      colour = rowWord r 4;
-      lights = longer-part (g .lights) (rowWord r 5) (rowWord r 6) (s .lights) i;
-      texgen = rowWord r 7;
-      fog = fog-stays (g .fogs) (rowWord r 8) (s .fog) i;
-      lookat = lookat-stays (g .lookats) (rowWord r 7) (rowWord r 9) (s .lookat) i;
+      flags = rowWord r flagsWord;
+      matrix = longer-at (g .matrices) [] (rowWord r matrixWord) (n .matrix) i;
+      viewport = longer-at (g .viewports) [] (rowWord r viewportWord) (n .viewport) i;
+      scale = longer-at (g .scales) [] (rowWord r scaleWord) (n .scale) i;
+      colour = rowWord r colourWord;
+      lights = longer-part (g .lights) (rowWord r lightWord) (rowWord r lightsWord) (n .lights) i;
+      texgen = rowWord r texgenWord;
+      fog = fog-stays (g .fogs) (rowWord r fogWord) (n .fog) i;
+      lookat = lookat-stays (g .lookats) (rowWord r texgenWord) (rowWord r lookatWord) (n .lookat) i;
     }
 
 pub sound-stays : {t u : Entries} (r : Row) → Grown t u → Sound t r → Sound u r
 sound-stays {t} {u} r g s =
+    let n = s .in-use in
     record {
       wide = s .wide;
-      matrix = omega (arith, s .matrix, longer-length (g .matrices));
-      viewport = omega (arith, s .viewport, longer-length (g .viewports));
-      scale = omega (arith, s .scale, longer-length (g .scales));
-      lights = omega (arith, s .lights, longer-length (g .lights));
-      fog = omega (arith, s .fog, longer-length (g .fogs));
-      lookat = λ n. omega (arith, s .lookat n, longer-length (g .lookats));
+      in-use = record {
+        matrix = omega (arith, n .matrix, longer-length (g .matrices));
+        viewport = omega (arith, n .viewport, longer-length (g .viewports));
+        scale = omega (arith, n .scale, longer-length (g .scales));
+        lights = omega (arith, n .lights, longer-length (g .lights));
+        fog = omega (arith, n .fog, longer-length (g .fogs));
+        lookat = λ m. omega (arith, n .lookat m, longer-length (g .lookats));
+      };
     }

@@ -2,6 +2,7 @@
 use mathlib.Core.Path.{_≡_, refl, sym, ap, _∙_, subst}
 use mathlib.Core.Logic.{_≢_}
 use Prim.Native.Nat.{ℕ, _+_, _-_, _≤_}
+use native.Mathlib.Omega.{arith}
 use mathlib.Core.Bool.{Bool, true, false, _||_, false≢true}
 use mathlib.Core.List.{List, [], _∷_, _++_, map}
 use lib.ListN.{length, getD}
@@ -52,23 +53,30 @@ held-mark : (slots : ℕ) (marks : List Bool) (i : ℕ) → held slots marks i �
 unfolding held
 held-mark slots marks i e = and-right (ltb i slots) (getD marks i false) e
 
-module _ (f : Family) (slots : ℕ) (few : slots ≤ 256) (k : Book) (h : Bench) (I : Inv slots k h) where
+module _ (F : ℕ → Family) (limit : State → ℕ) (seats : ℕ) (few : seats ≤ 256) (k : Book) (inside : limit (k .state) ≤ seats) (h : Bench) (I : Inv seats k h) where
+  -- the family in force, and how many slots a command may name
+  abbrev f : Family
+  f = F (k .state .microcode)
+
+  abbrev slots : ℕ
+  slots = limit (k .state)
+
   -- what an accepted command owes
   abbrev pub Keeps : Command → List ℕ → State → Edits → Type 0
-  Keeps c vs t e = Inv slots (enter t e k) (act f c (k .state) t h)
+  Keeps c vs t e = Inv seats (enter t e k) (act f c (k .state) t h)
 
   -- the invariant, over the parts of a state
   abbrev TiesOf : Parts → Type 0
-  TiesOf x = Ties slots (entriesOf k) (k .rows .used) (k .indices .used) (k .runs .used) x h
+  TiesOf x = Ties seats (entriesOf k) (k .rows .used) (k .indices .used) (k .runs .used) x h
 
   -- no table changes, and nothing of the state that is tied
-  rests : (t : State) → partsOf t ≡ partsOf (k .state) → Inv slots (enter t untouched k) h
+  rests : (t : State) → partsOf t ≡ partsOf (k .state) → Inv seats (enter t untouched k) h
   rests t e = record { count = counted-then k (k .state) untouched (I .count); ties = subst TiesOf (sym e) (I .ties) }
 
   -- no table changes, and other lights l are set
   relights : (t : State) (l : Lights)
       → partsOf t ≡ record { columns = partsOf (k .state) .columns; lights = l; lookat = k .state .lookat; unit = k .state .unit }
-      → (l .folded ≡ true → l .changed ≡ false → LightsAt (k .lights .used) l (h .values .lights)) → Inv slots (enter t untouched k) h
+      → (l .folded ≡ true → l .changed ≡ false → LightsAt (k .lights .used) l (h .values .lights)) → Inv seats (enter t untouched k) h
   relights t l e new =
       let c = I .ties .current in
       let x : Parts = record { columns = partsOf (k .state) .columns; lights = l; lookat = k .state .lookat; unit = k .state .unit } in
@@ -98,18 +106,18 @@ module _ (f : Family) (slots : ℕ) (few : slots ≤ 256) (k : Book) (h : Bench)
       (λ q. rw a (record { count = counted-then k (k .state) (edits1 keep) (I .count); ties = matrix-held (subst TiesOf (sym e) (I .ties)) m q }))
       (λ q _. rw a (record { count = counted-then k (k .state) (edits1 (grow (m ∷ []))) (I .count); ties = matrix-appended (subst TiesOf (sym e) (I .ties)) m q }))
 
-  keeps-matrix : (flags : ℕ) (bytes : List ℕ) (at : ℕ) → Accepted (Keeps (matrix flags bytes at)) (plan f slots (matrix flags bytes at) k)
+  keeps-matrix : (flags : ℕ) (bytes : List ℕ) (at : ℕ) → Accepted (Keeps (matrix flags bytes at)) (plan F limit (matrix flags bytes at) k)
   unfolding plan act
   keeps-matrix flags bytes at =
       on-matrix (Keeps (matrix flags bytes at)) f (k .state) (k .matrices) flags bytes at
       (λ _ s′ q. combined-keeps (matrix flags bytes at) s′ _ (ap partsOf q ∙ turned-parts _ _ _ (k .state) (matrixAt bytes at)) refl)
 
-  keeps-force : (bytes : List ℕ) (at : ℕ) → Accepted (Keeps (force bytes at)) (plan f slots (force bytes at) k)
+  keeps-force : (bytes : List ℕ) (at : ℕ) → Accepted (Keeps (force bytes at)) (plan F limit (force bytes at) k)
   unfolding plan act
   keeps-force bytes at =
       on-force (Keeps (force bytes at)) (k .state) (k .matrices) bytes at (λ _. combined-keeps (force bytes at) (k .state) (laid (matrixAt bytes at)) refl refl)
 
-  keeps-pop : (count : ℕ) → Accepted (Keeps (pop count)) (plan f slots (pop count) k)
+  keeps-pop : (count : ℕ) → Accepted (Keeps (pop count)) (plan F limit (pop count) k)
   unfolding plan act
   keeps-pop count =
       on-pop (Keeps (pop count)) (k .state) (k .matrices) count
@@ -118,7 +126,7 @@ module _ (f : Family) (slots : ℕ) (few : slots ≤ 256) (k : Book) (h : Bench)
       combined-keeps (pop count) s′ _ (ap partsOf z)
       (pick-false (eqb (s′ .depth) (k .state .depth)) h (combines (withCombined s′ _ true) h) (ap (λ (u : State). eqb (u .depth) (k .state .depth)) z ∙ q)))
 
-  keeps-viewport : (bytes : List ℕ) (at : ℕ) → Accepted (Keeps (viewport bytes at)) (plan f slots (viewport bytes at) k)
+  keeps-viewport : (bytes : List ℕ) (at : ℕ) → Accepted (Keeps (viewport bytes at)) (plan F limit (viewport bytes at) k)
   unfolding plan act
   keeps-viewport bytes at =
       on-viewport (Keeps (viewport bytes at)) (k .state) (k .viewports) bytes at
@@ -127,7 +135,7 @@ module _ (f : Family) (slots : ℕ) (few : slots ≤ 256) (k : Book) (h : Bench)
 
   -- ---- settings
 
-  keeps-geometry : (off on : ℕ) → Accepted (Keeps (geometry off on)) (plan f slots (geometry off on) k)
+  keeps-geometry : (off on : ℕ) → Accepted (Keeps (geometry off on)) (plan F limit (geometry off on) k)
   unfolding plan act geometryPlan
   keeps-geometry off on =
       on-unless (Keeps (geometry off on)) (stateSound (k .state)) 10 [] _
@@ -147,11 +155,11 @@ module _ (f : Family) (slots : ℕ) (few : slots ≤ 256) (k : Book) (h : Bench)
       → act f c (k .state) t h ≡ h → Accepted (Keeps c) (does [] t untouched)
   marked-keeps c t l e m a = on-does (Keeps c) [] t untouched (rw a (relights t l e (λ _ q. absurd (false≢true (sym q ∙ m)))))
 
-  keeps-number : (bytes : ℕ) → Accepted (Keeps (number bytes)) (plan f slots (number bytes) k)
+  keeps-number : (bytes : ℕ) → Accepted (Keeps (number bytes)) (plan F limit (number bytes) k)
   unfolding plan act numberPlan
   keeps-number bytes = on-unless (Keeps (number bytes)) (stateSound (k .state)) 10 [] _ (λ _. marked-keeps (number bytes) _ _ refl refl refl)
 
-  keeps-light : (slot : ℕ) (bytes : List ℕ) (at : ℕ) → Accepted (Keeps (light slot bytes at)) (plan f slots (light slot bytes at) k)
+  keeps-light : (slot : ℕ) (bytes : List ℕ) (at : ℕ) → Accepted (Keeps (light slot bytes at)) (plan F limit (light slot bytes at) k)
   unfolding plan act lightPlan ambientPlan slotPlan
   keeps-light slot bytes at =
       on-unless Q (stateSound (k .state)) 10 [] _
@@ -162,7 +170,7 @@ module _ (f : Family) (slots : ℕ) (few : slots ≤ 256) (k : Book) (h : Bench)
       Q : List ℕ → State → Edits → Type 0
       Q = Keeps (light slot bytes at)
 
-  keeps-lookat : (slot : ℕ) (bytes : List ℕ) (at : ℕ) → Accepted (Keeps (lookat slot bytes at)) (plan f slots (lookat slot bytes at) k)
+  keeps-lookat : (slot : ℕ) (bytes : List ℕ) (at : ℕ) → Accepted (Keeps (lookat slot bytes at)) (plan F limit (lookat slot bytes at) k)
   unfolding plan act lookatPlan axisIn
   keeps-lookat slot bytes at =
       on-unless Q (stateSound (k .state)) 10 [] _
@@ -175,7 +183,7 @@ module _ (f : Family) (slots : ℕ) (few : slots ≤ 256) (k : Book) (h : Bench)
       Q : List ℕ → State → Edits → Type 0
       Q = Keeps (lookat slot bytes at)
 
-  keeps-microcode : (to : Microcode) → Accepted (Keeps (microcode to)) (plan f slots (microcode to) k)
+  keeps-microcode : (to : Microcode) → Accepted (Keeps (microcode to)) (plan F limit (microcode to) k)
   unfolding plan act microcodePlan switched
   keeps-microcode to =
       on-unless (Keeps (microcode to)) (stateSound (k .state)) 10 [] _
@@ -185,17 +193,17 @@ module _ (f : Family) (slots : ℕ) (few : slots ≤ 256) (k : Book) (h : Bench)
 
   -- ---- load and modify
 
-  keeps-load : (first count : ℕ) (bytes : List ℕ) (at : ℕ) → Accepted (Keeps (load first count bytes at)) (plan f slots (load first count bytes at) k)
+  keeps-load : (first count : ℕ) (bytes : List ℕ) (at : ℕ) → Accepted (Keeps (load first count bytes at)) (plan F limit (load first count bytes at) k)
   unfolding plan act
   keeps-load first count bytes at =
       on-load (Keeps (load first count bytes at)) f slots (k .state) (loadOf k) first count bytes at
-      (λ q _ _. load-keeps f slots k h I (verticesAt bytes at count) first (rw (length-vertices bytes at count) q))
+      (λ q _ _. load-keeps f seats k h I (verticesAt bytes at count) first (rw (length-vertices bytes at count) (omega (arith, q, inside))))
 
-  keeps-modify : (slot attribute value : ℕ) → Accepted (Keeps (modify slot attribute value)) (plan f slots (modify slot attribute value) k)
+  keeps-modify : (slot attribute value : ℕ) → Accepted (Keeps (modify slot attribute value)) (plan F limit (modify slot attribute value) k)
   unfolding plan act
   keeps-modify slot attribute value =
       on-modify (Keeps (modify slot attribute value)) slots (k .state) (k .scales) (k .rows) slot attribute value
-      (λ c a inside lo _ _. rw a (modify-keeps slots k h I slot c inside lo))
+      (λ c a below lo _ _. rw a (modify-keeps slots seats k h I slot c (omega (arith, below, inside)) lo))
 
   -- ---- draw
 
@@ -213,7 +221,7 @@ module _ (f : Family) (slots : ℕ) (few : slots ≤ 256) (k : Book) (h : Bench)
     -- what stands after a triangle of the slots x, y, z
     abbrev Drew : List (List ℕ) → List (List ℕ) → Triangle → Type 0
     Drew is rs t =
-        Standing slots (entriesOf k) (k .rows .used) (k .indices .used ++ is) rs (withMarks (partsOf (k .state) .columns) marks) (h .slots) (h .triangles ++ t ∷ [])
+        Standing seats (entriesOf k) (k .rows .used) (k .indices .used ++ is) rs (withMarks (partsOf (k .state) .columns) marks) (h .slots) (h .triangles ++ t ∷ [])
 
     drawn-keeps : Held slots (k .state .ever) (a ∷ b ∷ c ∷ []) → Extended (k .runs .used) (edit (runEdit (k .runs .used) (length (k .indices .used)) six) (k .runs .used)) (length (k .indices .used)) six
         → (s : Bool) → swaps f (k .state .geometry) ≡ s
@@ -223,7 +231,7 @@ module _ (f : Family) (slots : ℕ) (few : slots ≤ 256) (k : Book) (h : Bench)
     unfolding pick
     drawn-keeps known X s e = go s
       where
-        S : Standing slots (entriesOf k) (k .rows .used) (k .indices .used) (k .runs .used) (partsOf (k .state) .columns) (h .slots) (h .triangles)
+        S : Standing seats (entriesOf k) (k .rows .used) (k .indices .used) (k .runs .used) (partsOf (k .state) .columns) (h .slots) (h .triangles)
         S = I .ties .standing
 
         ea : getD (k .state .ever) a false ≡ true
@@ -235,11 +243,11 @@ module _ (f : Family) (slots : ℕ) (few : slots ≤ 256) (k : Book) (h : Bench)
         ec : getD (k .state .ever) c false ≡ true
         ec = held-mark slots (k .state .ever) c (known .1 .1 .0)
 
-        long : slots ≤ length marks
+        long : seats ≤ length marks
         long = rw (mark-length (k .state .drawn) (a ∷ b ∷ c ∷ [])) (S .full .drawn)
 
         apart : (l : ℕ) → getD marks l false ≡ false → (l ≢ a) × (l ≢ b) × (l ≢ c) × (getD (k .state .drawn) l false ≡ false)
-        apart = three-marked slots (k .state .drawn) a b c (S .full .drawn) (S .within a ea) (S .within b eb) (S .within c ec)
+        apart = three-marked seats (k .state .drawn) a b c (S .full .drawn) (S .within a ea) (S .within b eb) (S .within c ec)
 
         go : (s : Bool)
             → Drew (map (λ (r : ℕ). r ∷ []) (corners s (rowOf (k .state) a) (rowOf (k .state) b) (rowOf (k .state) c)))
@@ -248,7 +256,7 @@ module _ (f : Family) (slots : ℕ) (few : slots ≤ 256) (k : Book) (h : Bench)
         go true = triangle-drawn S c b a ec eb ea six _ X marks long (λ l z. let u = apart l z in (u .2, u .1, u .0, u .3))
         go false = triangle-drawn S a b c ea eb ec six _ X marks long apart
 
-    keeps-draw : Accepted (Keeps (draw a b c material mode colour prim)) (plan f slots (draw a b c material mode colour prim) k)
+    keeps-draw : Accepted (Keeps (draw a b c material mode colour prim)) (plan F limit (draw a b c material mode colour prim) k)
     unfolding plan act
     keeps-draw =
         on-draw (Keeps (draw a b c material mode colour prim)) f slots (k .state) (k .indices) (k .runs) a b c asked
@@ -259,13 +267,13 @@ module _ (f : Family) (slots : ℕ) (few : slots ≤ 256) (k : Book) (h : Bench)
           count = counted-then k (k .state) (edits89 (grow (triangle f (k .state) a b c)) (runEdit (k .runs .used) (length (k .indices .used)) six)) (I .count);
           ties = record {
             current = I .ties .current;
-            standing = drawn-keeps held (extended (k .runs .used) (length (k .indices .used)) six refl (I .ties .standing .reached) (I .ties .standing .eight) z) (swaps f (k .state .geometry)) refl;
+            standing = drawn-keeps held (extended (k .runs .used) (length (k .indices .used)) six refl (I .ties .standing .reached) (I .ties .standing .whole) z) (swaps f (k .state .geometry)) refl;
           };
         }))
 
   -- ---- every command
 
-  pub keeps : (c : Command) → Accepted (Keeps c) (plan f slots c k)
+  pub keeps : (c : Command) → Accepted (Keeps c) (plan F limit c k)
   unfolding plan act texturePlan fogPlan
   keeps (matrix flags bytes at) = keeps-matrix flags bytes at
   keeps (force bytes at) = keeps-force bytes at

@@ -43,12 +43,14 @@ module _ (f : Family) (s : State) (t : Entries) (e : Shared) (h : Values) (S : S
   row-sound v =
       record {
         wide = refl;
-        matrix = S .matrix .0;
-        viewport = S .viewport .0;
-        scale = S .scale .0;
-        lights = S .lights .0;
-        fog = S .fog .0;
-        lookat = λ n. S .lookat (λ z. n (S .texgen ∙ z)) .0;
+        in-use = record {
+          matrix = S .matrix .0;
+          viewport = S .viewport .0;
+          scale = S .scale .0;
+          lights = S .lights .0;
+          fog = S .fog .0;
+          lookat = λ n. S .lookat (λ z. n (S .texgen ∙ z)) .0;
+        };
       }
 
   looks : (b : Bool) → eqb (texgenMode f (s .geometry)) 0 ≡ b → pick b none (some (getD (t .lookats) (e .lookat) [])) ≡ pick b none (some (h .lookat))
@@ -74,13 +76,13 @@ module _ (f : Family) (s : State) (t : Entries) (e : Shared) (h : Values) (S : S
       }
 
   -- vertex by vertex: rows behind those in use, slots from k on
-  pub rows-loaded : (m : List (List Float)) (slots : ℕ) (vs : List Vertex) (u : State) (rows : List Row) (indices runs : List (List ℕ)) (l : List Corner) (ts : List Triangle) (k : ℕ)
-      → Standing slots t rows indices runs (partsOf u .columns) l ts → k + length vs ≤ slots
-      → Standing slots t (rows ++ map (vertexRow e) vs) indices runs (partsOf (fillSlots u m e k (length rows) vs) .columns) (seated l k (map (corner f s h) vs)) ts
+  pub rows-loaded : (m : List (List Float)) (seats : ℕ) (vs : List Vertex) (u : State) (rows : List Row) (indices runs : List (List ℕ)) (l : List Corner) (ts : List Triangle) (k : ℕ)
+      → Standing seats t rows indices runs (partsOf u .columns) l ts → k + length vs ≤ seats
+      → Standing seats t (rows ++ map (vertexRow e) vs) indices runs (partsOf (fillSlots u m e k (length rows) vs) .columns) (seated l k (map (corner f s h) vs)) ts
   unfolding fillSlots fillSlot
-  rows-loaded m slots [] u rows indices runs l ts k I r = rw (append-nil rows) I
-  rows-loaded m slots (v ∷ vs) u rows indices runs l ts k I r =
+  rows-loaded m seats [] u rows indices runs l ts k I r = rw (append-nil rows) I
+  rows-loaded m seats (v ∷ vs) u rows indices runs l ts k I r =
       let J = row-filled I k (vertexRow e v) (omega arith) (row-sound v) in
       let n : length (rows ++ vertexRow e v ∷ []) ≡ length rows + 1 = length-append rows (vertexRow e v ∷ []) in
-      let K = rows-loaded m slots vs (fillSlot u k (length rows) (slotOf m e v)) (rows ++ vertexRow e v ∷ []) indices runs (set l k (shown t (vertexRow e v))) ts (k + 1) J (omega arith) in
+      let K = rows-loaded m seats vs (fillSlot u k (length rows) (slotOf m e v)) (rows ++ vertexRow e v ∷ []) indices runs (set l k (shown t (vertexRow e v))) ts (k + 1) J (omega arith) in
       rw (append-assoc rows (vertexRow e v ∷ []) (map (vertexRow e) vs), n, row-shown v) at K

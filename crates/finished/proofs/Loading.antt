@@ -41,7 +41,7 @@ unfolding fillSlots
 fills-keep g h u m e k r [] = refl
 fills-keep g h u m e k r (v ∷ vs) = fills-keep g h (fillSlot u k r (slotOf m e v)) m e (k + 1) (r + 1) vs ∙ h u k r (slotOf m e v)
 
-module _ (f : Family) (slots : ℕ) (k : Book) (h : Bench) (I : Inv slots k h) (vs : List Vertex) where
+module _ (f : Family) (seats : ℕ) (k : Book) (h : Bench) (I : Inv seats k h) (vs : List Vertex) where
   -- what is decided, and what the tables get
   abbrev d : Settled
   d = settled f (k .state) (k .matrices .used) (k .scales .used) (k .fogs .used)
@@ -118,20 +118,20 @@ module _ (f : Family) (slots : ℕ) (k : Book) (h : Bench) (I : Inv slots k h) (
       }
 
   -- slots, rows and triangles then
-  standing-then : (first : ℕ) → first + length vs ≤ slots
-      → Standing slots t (edit (e .rows) (k .rows .used)) (k .indices .used) (k .runs .used)
+  standing-then : (first : ℕ) → first + length vs ≤ seats
+      → Standing seats t (edit (e .rows) (k .rows .used)) (k .indices .used) (k .runs .used)
       (partsOf (fillSlots (settledState d (k .state)) (rows (d .combined) 0) (sharedBy d (k .state)) first (k .state .counts .rows) vs) .columns)
       (seated (h .slots) first (map (corner f (k .state) g) vs)) (h .triangles)
   unfolding loadEdits settledState
   standing-then first fits =
       let u : State = settledState d (k .state) in
       let J = tables-grow (I .ties .standing) tables in
-      let K = rows-loaded f (k .state) t (sharedBy d (k .state)) g shares (rows (d .combined) 0) slots vs u (k .rows .used) (k .indices .used) (k .runs .used) (h .slots) (h .triangles) first J fits in
+      let K = rows-loaded f (k .state) t (sharedBy d (k .state)) g shares (rows (d .combined) 0) seats vs u (k .rows .used) (k .indices .used) (k .runs .used) (h .slots) (h .triangles) first J fits in
       rw (I .count .rows) at K
 
   -- THE INVARIANT AFTER A LOAD
-  pub load-keeps : (first : ℕ) → first + length vs ≤ slots
-      → Inv slots (enter (fillSlots (settledState d (k .state)) (rows (d .combined) 0) (sharedBy d (k .state)) first (k .state .counts .rows) vs) e k) (loads f (k .state) first vs (settledValues f (k .state) (h .values)) h)
+  pub load-keeps : (first : ℕ) → first + length vs ≤ seats
+      → Inv seats (enter (fillSlots (settledState d (k .state)) (rows (d .combined) 0) (sharedBy d (k .state)) first (k .state .counts .rows) vs) e k) (loads f (k .state) first vs (settledValues f (k .state) (h .values)) h)
   unfolding t g settledValues loadEdits fillSlot
   load-keeps first fits =
       let u : State = settledState d (k .state) in

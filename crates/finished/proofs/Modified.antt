@@ -1,36 +1,35 @@
 -- Modify keeps the invariant. Assumes nothing.
-use mathlib.Core.Path.{_≡_, refl, sym, ap, _∙_}
+use mathlib.Core.Path.{_≡_, refl, sym, ap, _∙_, subst}
 use mathlib.Core.Logic.{_≢_}
 use Prim.Native.Nat.{ℕ, _+_, _-_, _<_}
 use native.Mathlib.Omega.{arith}
 use mathlib.Core.Bool.{Bool, true, false, not, _&&_, _||_, cond, false≢true}
 use mathlib.Core.List.{List, [], _∷_}
-use mathlib.Core.Option.{none}
 use lib.ListN.{length, getD, set, length-append}
 use lib.Seq.{getD-append-seam, set-getD}
 use lib.Dec.{eqb}
 use lib.Ieee.{Float}
 use borrow.Author.Tests.{eqb-false, ne-eqb}
-use Rattle.areas.specs.Area.{part}
+use Rattle.areas.specs.Widths.{sFloat, tFloat}
 use Rattle.decide.specs.Append.{final}
 use Rattle.change.specs.declared.Change.{Change}
 use Rattle.change.specs.declared.Change.the-variants.{Colour, Texture, Screen, Depth}
 use Rattle.change.specs.declared.Asked.the-variants.{Known}
 use Rattle.change.specs.declared.judge.Moved.{Moved}
-use Rattle.change.specs.Decoded.{floatsAfter, wordsAfter}
+use Rattle.change.specs.Decoded.{floatsAfter}
 use Rattle.change.specs.Judged.{unitEntry, appends, comesTo}
 use Rattle.stage.specs.Plan.{Row, Edit, keep, grow, pick}
 use Rattle.stage.specs.Modify.{edits37, slotOf, tablesOf, scaleEdit, rowAfter, rowEdit, rowChange, changed}
 use Rattle.sequence.specs.Sequence.{Book}
 use Rattle.sequence.proofs.Turn.{edit, enter}
-use Rattle.finished.specs.Shown.{Entries, entriesOf, fogShown, shown, shownBy, noRow}
-use Rattle.finished.specs.Bench.{Bench, noCorner, changedBy, scaled, modifies}
+use Rattle.finished.specs.Shown.{Entries, entriesOf, shown, shownBy, rowWord, noRow}
+use Rattle.finished.specs.Bench.{Bench, noCorner, textured, changedBy, scaled, modifies}
 use Rattle.finished.proofs.Lists.{final-snoc, set-true}
-use Rattle.finished.proofs.Growing.{Sound, Grown}
+use Rattle.finished.proofs.Growing.{InUse, Sound, Grown}
 use Rattle.finished.proofs.Standing.{Standing, tables-grow, row-filled, row-changed}
 use Rattle.finished.proofs.Settled.{longer-if}
 use Rattle.sequence.proofs.Counted.{counted-then}
-use Rattle.sequence.proofs.Spelled.{ten}
+use Rattle.sequence.proofs.Placed.{wordAfter, word-after}
 use Rattle.finished.proofs.Ties.{partsOf, CurrentIn, Inv, grown-same}
 
 -- ---- a row with the change made in it
@@ -40,50 +39,35 @@ module _ (t : Entries) (u : ℕ) where
   abbrev UnitAt : Change → Type 0
   UnitAt c = scaled c ≡ true → (u - 1 < length (t .scales)) × (getD (t .scales) (u - 1) [] ≡ unitEntry)
 
-  -- the row with the change made shows the corner with the change made
-  change-shown : (c : Change) (x : List Float) (l : List ℕ) → length l ≡ 10 → UnitAt c
-      → shown t (rowAfter c u (record { floats = x; words = l })) ≡ changedBy c (shown t (record { floats = x; words = l }))
-  unfolding shown shownBy changedBy floatsAfter wordsAfter pick
-  change-shown (Colour w) x l n h =
-      ten (λ m. shown t (rowAfter (Colour w) u (record { floats = x; words = m })) ≡ changedBy (Colour w) (shown t (record { floats = x; words = m })))
-      (λ _ _ _ _ _ _ _ _ _ _. refl) l n
-  change-shown (Texture y z) x l n h =
-      ten (λ m. shown t (rowAfter (Texture y z) u (record { floats = x; words = m })) ≡ changedBy (Texture y z) (shown t (record { floats = x; words = m })))
-      (λ a b c d e f g p q r. λ i.
-      record {
-        floats = set (set x 3 y) 4 z;
-        flags = a;
-        matrix = getD (t .matrices) b [];
-        viewport = getD (t .viewports) c [];
-        scale = h refl .1 i;
-        colour = e;
-        lights = part (t .lights) f g;
-        texgen = 0;
-        fog = fogShown (t .fogs) q;
-        lookat = none;
-      }) l n
-  change-shown (Screen y z) x l n h =
-      ten (λ m. shown t (rowAfter (Screen y z) u (record { floats = x; words = m })) ≡ changedBy (Screen y z) (shown t (record { floats = x; words = m })))
-      (λ _ _ _ _ _ _ _ _ _ _. refl) l n
-  change-shown (Depth z own) x l n h =
-      ten (λ m. shown t (rowAfter (Depth z own) u (record { floats = x; words = m })) ≡ changedBy (Depth z own) (shown t (record { floats = x; words = m })))
-      (λ _ _ _ _ _ _ _ _ _ _. refl) l n
+  -- the corner of the words after a change is the corner with the change made
+  by-place : (c : Change) (x : List Float) (g : ℕ → ℕ) → UnitAt c → shownBy t (floatsAfter c x) (wordAfter c (u - 1) g) ≡ changedBy c (shownBy t x g)
+  unfolding shownBy changedBy floatsAfter pick
+  by-place (Colour w) x g h = refl
+  by-place (Texture y z) x g h = ap (textured (shownBy t x g) (set (set x sFloat y) tFloat z)) (h refl .1)
+  by-place (Screen y z) x g h = refl
+  by-place (Depth z own) x g h = refl
 
-  -- and its table numbers are in use
-  change-sound : (c : Change) (x : List Float) (l : List ℕ) → UnitAt c → Sound t (record { floats = x; words = l }) → Sound t (rowAfter c u (record { floats = x; words = l }))
-  unfolding wordsAfter
-  change-sound c x l h s = ten (λ m. Sound t (record { floats = x; words = m }) → Sound t (rowAfter c u (record { floats = x; words = m }))) (λ a b d e f g p q r o S. go c h S) l (s .wide) s
-    where
-      go : {a b d e f g p q r o : ℕ} (c : Change) → UnitAt c → Sound t (record { floats = x; words = a ∷ b ∷ d ∷ e ∷ f ∷ g ∷ p ∷ q ∷ r ∷ o ∷ [] })
-          → Sound t (rowAfter c u (record { floats = x; words = a ∷ b ∷ d ∷ e ∷ f ∷ g ∷ p ∷ q ∷ r ∷ o ∷ [] }))
-      go (Colour w) h S =
-          record { wide = refl; matrix = S .matrix; viewport = S .viewport; scale = S .scale; lights = omega arith; fog = omega arith; lookat = S .lookat }
-      go (Texture y z) h S =
-          record { wide = refl; matrix = S .matrix; viewport = S .viewport; scale = h refl .0; lights = S .lights; fog = S .fog; lookat = λ n. absurd (n refl) }
-      go (Screen y z) h S =
-          record { wide = refl; matrix = S .matrix; viewport = S .viewport; scale = S .scale; lights = S .lights; fog = S .fog; lookat = S .lookat }
-      go (Depth z own) h S =
-          record { wide = refl; matrix = S .matrix; viewport = S .viewport; scale = S .scale; lights = S .lights; fog = S .fog; lookat = S .lookat }
+  -- and their table numbers are in use
+  in-use-then : (c : Change) (g : ℕ → ℕ) → UnitAt c → InUse t g → InUse t (wordAfter c (u - 1) g)
+  in-use-then (Colour w) g h S = record { matrix = S .matrix; viewport = S .viewport; scale = S .scale; lights = omega arith; fog = omega arith; lookat = S .lookat }
+  in-use-then (Texture y z) g h S = record { matrix = S .matrix; viewport = S .viewport; scale = h refl .0; lights = S .lights; fog = S .fog; lookat = λ n. absurd (n refl) }
+  in-use-then (Screen y z) g h S = record { matrix = S .matrix; viewport = S .viewport; scale = S .scale; lights = S .lights; fog = S .fog; lookat = S .lookat }
+  in-use-then (Depth z own) g h S = record { matrix = S .matrix; viewport = S .viewport; scale = S .scale; lights = S .lights; fog = S .fog; lookat = S .lookat }
+
+  -- the row with the change made shows the corner with the change made, and is sound
+  change-shown : (c : Change) (r : Row) → UnitAt c → Sound t r → shown t (rowAfter c u r) ≡ changedBy c (shown t r)
+  unfolding shown
+  change-shown c r h s =
+      let W = word-after c (u - 1) (r .words) (s .wide) in
+      let e : shown t (rowAfter c u r) ≡ shownBy t (floatsAfter c (r .floats)) (wordAfter c (u - 1) (rowWord r)) =
+      λ i. shownBy t (floatsAfter c (r .floats)) (λ j. W .at j i) in
+      e ∙ by-place c (r .floats) (rowWord r) h
+
+  change-sound : (c : Change) (r : Row) → UnitAt c → Sound t r → Sound t (rowAfter c u r)
+  change-sound c r h s =
+      let W = word-after c (u - 1) (r .words) (s .wide) in
+      let e : rowWord (rowAfter c u r) ≡ wordAfter c (u - 1) (rowWord r) = λ i j. W .at j i in
+      record { wide = W .wide; in-use = subst (InUse t) (sym e) (in-use-then c (rowWord r) h (s .in-use)) }
 
 -- ---- the unit scale entry
 
@@ -159,9 +143,9 @@ module _ (c : Change) (u n : ℕ) (ss : List (List Float)) (ne : length ss ≡ n
 
 -- ---- the command
 
-module _ (slots : ℕ) (k : Book) (h : Bench) (I : Inv slots k h) (slot : ℕ) (c : Change) (inside : slot < slots) (lo : getD (k .state .loaded) slot false ≡ true) where
+module _ (limit seats : ℕ) (k : Book) (h : Bench) (I : Inv seats k h) (slot : ℕ) (c : Change) (inside : slot < seats) (lo : getD (k .state .loaded) slot false ≡ true) where
   abbrev m : Moved
-  m = comesTo c (slotOf slots (k .state) slot) (tablesOf (k .state) (k .scales) (k .rows))
+  m = comesTo c (slotOf limit (k .state) slot) (tablesOf (k .state) (k .scales) (k .rows))
 
   -- the row of the slot, before and after
   abbrev i : ℕ
@@ -190,7 +174,7 @@ module _ (slots : ℕ) (k : Book) (h : Bench) (I : Inv slots k h) (slot : ℕ) (
       let g = grown-same (entriesOf k) in
       record { matrices = g .matrices; viewports = g .viewports; scales = longer-if _ _ (k .scales .used); lights = g .lights; lookats = g .lookats; fogs = g .fogs }
 
-  stands : Standing slots t (k .rows .used) (k .indices .used) (k .runs .used) (partsOf (k .state) .columns) (h .slots) (h .triangles)
+  stands : Standing seats t (k .rows .used) (k .indices .used) (k .runs .used) (partsOf (k .state) .columns) (h .slots) (h .triangles)
   stands = tables-grow (I .ties .standing) tables
 
   -- the unit entry then
@@ -205,16 +189,16 @@ module _ (slots : ℕ) (k : Book) (h : Bench) (I : Inv slots k h) (slot : ℕ) (
   r′ = rowAfter c (m .unit) r
 
   sound-then : Sound t r′
-  sound-then = change-sound t (m .unit) c (r .floats) (r .words) unit-at (stands .sound i (stands .below slot ev))
+  sound-then = change-sound t (m .unit) c r unit-at (stands .sound i (stands .below slot ev))
 
   shown-then : shown t r′ ≡ changedBy c (getD (h .slots) slot noCorner)
   shown-then =
-      change-shown t (m .unit) c (r .floats) (r .words) (stands .sound i (stands .below slot ev) .wide) unit-at ∙ ap (changedBy c) (stands .held slot ev)
+      change-shown t (m .unit) c r unit-at (stands .sound i (stands .below slot ev)) ∙ ap (changedBy c) (stands .held slot ev)
 
   -- what holds then of slots, rows and triangles
   abbrev Then : Edit Row → ℕ → Type 0
   Then e n =
-      Standing slots t (edit e (k .rows .used)) (k .indices .used) (k .runs .used)
+      Standing seats t (edit e (k .rows .used)) (k .indices .used) (k .runs .used)
       (record { row = set (k .state .row) slot n; ever = k .state .ever; loaded = k .state .loaded; drawn = set (k .state .drawn) slot false })
       (set (h .slots) slot (changedBy c (getD (h .slots) slot noCorner))) (h .triangles)
 
@@ -248,7 +232,7 @@ module _ (slots : ℕ) (k : Book) (h : Bench) (I : Inv slots k h) (slot : ℕ) (
       }
 
   -- THE INVARIANT AFTER A MODIFY
-  pub modify-keeps : Inv slots (enter (changed c m (k .state) slot) (edits37 (scaleEdit c (k .state)) (rowChange c m (k .state) (k .rows) slot)) k) (modifies (Known c) slot h)
+  pub modify-keeps : Inv seats (enter (changed c m (k .state) slot) (edits37 (scaleEdit c (k .state)) (rowChange c m (k .state) (k .rows) slot)) k) (modifies (Known c) slot h)
   unfolding changed modifies
   modify-keeps =
       record {

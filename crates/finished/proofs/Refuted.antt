@@ -1,6 +1,6 @@
 -- The theorem is false of each broken machine: a short sequence after which a recorded triangle shows something else. Assumes nothing.
 use mathlib.Core.Path.{_≡_, refl, ap}
-use Prim.Native.Nat.{ℕ}
+use Prim.Native.Nat.{ℕ, _*_}
 use native.Mathlib.Omega.{arith}
 use mathlib.Core.List.{List, [], _∷_}
 use lib.ListN.{getD, replicate}
@@ -10,6 +10,7 @@ use Rattle.matrix.specs.Math.{rowTimes, times, rows, laid}
 use Rattle.matrix.specs.Clip.{codeOf, depthOf}
 use Rattle.layout.specs.Layout.{vertexAt, tripleAt}
 use Rattle.areas.specs.Area.{put, write, matches}
+use Rattle.areas.specs.Widths.{matrixWidth, viewportWidth, scaleWidth, floatWidth, wordWidth, indexWidth, runWidth}
 use Rattle.decide.specs.Family.{f3dex2, texgenMode}
 use Rattle.fold.specs.Fog.{find}
 use Rattle.fold.specs.Scales.{sameScale}
@@ -39,16 +40,16 @@ use Rattle.finished.specs.Broken.{Rules, under, inPlace, keepsLoaded, ma
 areas : Areas
 areas =
     record {
-      matrices = zeros 32;
-      viewports = zeros 12;
-      scales = zeros 8;
+      matrices = zeros (2 * matrixWidth);
+      viewports = zeros (2 * viewportWidth);
+      scales = zeros (2 * scaleWidth);
       lights = [];
       lookats = [];
       fogs = [];
-      floats = zeros 45;
-      words = replicate 50 0;
-      indices = replicate 6 0;
-      runs = replicate 16 0;
+      floats = zeros (5 * floatWidth);
+      words = replicate (5 * wordWidth) 0;
+      indices = replicate (6 * indexWidth) 0;
+      runs = replicate (2 * runWidth) 0;
     }
 
 -- three vertices loaded, and a triangle of them with a material
@@ -64,7 +65,7 @@ recoloured slot = modify slot 0x10 7
 
 -- the machine under the rules r is finished
 abbrev AllFinished : (Book → Rules) → Type 0
-AllFinished r = (x y : Areas) → Alike x y → (cs ds es : List Command) (n : ℕ) → Finished f3dex2 (under r (plan f3dex2 256)) 256 x y cs ds es n
+AllFinished r = (x y : Areas) → Alike x y → (cs ds es : List Command) (n : ℕ) → Finished (λ _. f3dex2) (under r (plan (λ _. f3dex2) (λ _. 256))) 256 x y cs ds es n
 
 -- the colour of a corner, and the material, of a triangle
 abbrev colourOf : ℕ → Triangle → ℕ

@@ -19,7 +19,7 @@ use Rattle.stage.specs.Plan.{Edit, keep, grow, patch, Edits, Row, counted}
 use Rattle.sequence.specs.Sequence.{Book}
 use Rattle.sequence.proofs.Counted.{Counted}
 use Rattle.finished.specs.Shown.{Entries, entriesOf}
-use Rattle.finished.specs.Bench.{Values, Bench, renewed, withMatrix, withViewport}
+use Rattle.finished.specs.Bench.{Values, Bench, renewed, newMatrix, newViewport, withValues}
 use Rattle.finished.proofs.Lists.{same, with-more, final-snoc, pick-true, pick-false}
 use Rattle.finished.proofs.Growing.{Grown}
 use Rattle.finished.proofs.Settled.{LightsAt}
@@ -54,13 +54,13 @@ pub record Current (t : Entries) (l : Lights) (folded : Bool) (place u : ℕ) (v
 abbrev pub CurrentIn : Entries → Parts → Values → Type 0
 CurrentIn t x v = Current t (x .lights) (x .lookat .folded) (x .lookat .place) (x .unit) v
 
-pub record Ties (slots : ℕ) (t : Entries) (rows : List Row) (indices runs : List (List ℕ)) (x : Parts) (h : Bench) : Type 0 where
+pub record Ties (seats : ℕ) (t : Entries) (rows : List Row) (indices runs : List (List ℕ)) (x : Parts) (h : Bench) : Type 0 where
   pub current : CurrentIn t x (h .values)
-  pub standing : Standing slots t rows indices runs (x .columns) (h .slots) (h .triangles)
+  pub standing : Standing seats t rows indices runs (x .columns) (h .slots) (h .triangles)
 
-pub record Inv (slots : ℕ) (k : Book) (h : Bench) : Type 0 where
+pub record Inv (seats : ℕ) (k : Book) (h : Bench) : Type 0 where
   pub count : Counted k
-  pub ties : Ties slots (entriesOf k) (k .rows .used) (k .indices .used) (k .runs .used) (partsOf (k .state)) h
+  pub ties : Ties seats (entriesOf k) (k .rows .used) (k .indices .used) (k .runs .used) (partsOf (k .state)) h
 
 -- ---- matrix and viewport
 
@@ -83,16 +83,16 @@ grown-same t =
       fogs = same (t .fogs);
     }
 
-module _ {slots : ℕ} {t : Entries} {rows : List Row} {indices runs : List (List ℕ)} {x : Parts} {h : Bench} (I : Ties slots t rows indices runs x h) (m : List Float) where
+module _ {seats : ℕ} {t : Entries} {rows : List Row} {indices runs : List (List ℕ)} {x : Parts} {h : Bench} (I : Ties seats t rows indices runs x h) (m : List Float) where
   -- the last value compares equal: it is held
-  pub matrix-held : matches eq (final (t .matrices)) m ≡ true → Ties slots t rows indices runs x (withMatrix h (renewed (h .values .matrix) m))
+  pub matrix-held : matches eq (final (t .matrices)) m ≡ true → Ties seats t rows indices runs x (withValues h (newMatrix (h .values) m))
   matrix-held e =
       let q : renewed (h .values .matrix) m ≡ h .values .matrix = pick-true (matches eq (h .values .matrix) m) (h .values .matrix) m (rw (I .current .matrix) e) in
       rw q I
 
   -- it does not: the new one is appended and held
   pub matrix-appended : matches eq (final (t .matrices)) m ≡ false
-      → Ties slots (withMatrices t (t .matrices ++ m ∷ [])) rows indices runs x (withMatrix h (renewed (h .values .matrix) m))
+      → Ties seats (withMatrices t (t .matrices ++ m ∷ [])) rows indices runs x (withValues h (newMatrix (h .values) m))
   matrix-appended e =
       let q : renewed (h .values .matrix) m ≡ m = pick-false (matches eq (h .values .matrix) m) (h .values .matrix) m (rw (I .current .matrix) e) in
       let c = I .current in
@@ -114,13 +114,13 @@ module _ {slots : ℕ} {t : Entries} {rows : List Row} {indices runs : List (Lis
             (record { matrices = with-more (t .matrices) (m ∷ []); viewports = g .viewports; scales = g .scales; lights = g .lights; lookats = g .lookats; fogs = g .fogs });
       })
 
-  pub viewport-held : matches eq (final (t .viewports)) m ≡ true → Ties slots t rows indices runs x (withViewport h (renewed (h .values .viewport) m))
+  pub viewport-held : matches eq (final (t .viewports)) m ≡ true → Ties seats t rows indices runs x (withValues h (newViewport (h .values) m))
   viewport-held e =
       let q : renewed (h .values .viewport) m ≡ h .values .viewport = pick-true (matches eq (h .values .viewport) m) (h .values .viewport) m (rw (I .current .viewport) e) in
       rw q I
 
   pub viewport-appended : matches eq (final (t .viewports)) m ≡ false
-      → Ties slots (withViewports t (t .viewports ++ m ∷ [])) rows indices runs x (withViewport h (renewed (h .values .viewport) m))
+      → Ties seats (withViewports t (t .viewports ++ m ∷ [])) rows indices runs x (withValues h (newViewport (h .values) m))
   viewport-appended e =
       let q : renewed (h .values .viewport) m ≡ m = pick-false (matches eq (h .values .viewport) m) (h .values .viewport) m (rw (I .current .viewport) e) in
       let c = I .current in

@@ -10,6 +10,7 @@ use lib.Bits.{bitOr}
 use lib.Dec.{eqb}
 use lib.Ieee.{Float, eq}
 use Rattle.areas.specs.Area.{matches}
+use Rattle.areas.specs.Widths.{viewportWidth, sFloat, tFloat, screenX, screenY, screenZ}
 use Rattle.matrix.specs.Math.{identity, rows, laid}
 use Rattle.layout.specs.declared.records.Vertex.{Vertex}
 use Rattle.decide.specs.declared.family.Family.{Family}
@@ -55,25 +56,13 @@ pub record Bench : Type 0 where
 
 -- an empty slot, and the bench at opening
 abbrev pub noCorner : Corner
-noCorner =
-    record {
-      floats = [];
-      flags = 0;
-      matrix = [];
-      viewport = [];
-      scale = [];
-      colour = 0;
-      lights = [];
-      texgen = 0;
-      fog = none;
-      lookat = none;
-    }
+noCorner = record { floats = []; flags = 0; matrix = []; viewport = []; scale = []; colour = 0; lights = []; texgen = 0; fog = none; lookat = none }
 
 unfoldable pub bench0 : ℕ → Bench
-bench0 slots =
+bench0 seats =
     record {
-      slots = replicate slots noCorner;
-      values = record { matrix = laid identity; viewport = zeros 6; scale = []; lights = []; lookat = []; unit = false };
+      slots = replicate seats noCorner;
+      values = record { matrix = laid identity; viewport = zeros viewportWidth; scale = []; lights = []; lookat = []; unit = false };
       triangles = [];
     }
 
@@ -83,28 +72,20 @@ bench0 slots =
 abbrev pub renewed : List Float → List Float → List Float
 renewed last new = pick (matches eq last new) last new
 
--- a bench with another matrix, or viewport, last appended
-abbrev pub withMatrix : Bench → List Float → Bench
-withMatrix h m =
-    let v = h .values in
-    record {
-      slots = h .slots;
-      values = record { matrix = m; viewport = v .viewport; scale = v .scale; lights = v .lights; lookat = v .lookat; unit = v .unit };
-      triangles = h .triangles;
-    }
+-- values after such a rule, for a matrix or for a viewport
+abbrev pub newMatrix : Values → List Float → Values
+newMatrix v m = record { matrix = renewed (v .matrix) m; viewport = v .viewport; scale = v .scale; lights = v .lights; lookat = v .lookat; unit = v .unit }
 
-abbrev pub withViewport : Bench → List Float → Bench
-withViewport h x =
-    let v = h .values in
-    record {
-      slots = h .slots;
-      values = record { matrix = v .matrix; viewport = x; scale = v .scale; lights = v .lights; lookat = v .lookat; unit = v .unit };
-      triangles = h .triangles;
-    }
+abbrev pub newViewport : Values → List Float → Values
+newViewport v x = record { matrix = v .matrix; viewport = renewed (v .viewport) x; scale = v .scale; lights = v .lights; lookat = v .lookat; unit = v .unit }
+
+-- a bench with other values
+abbrev pub withValues : Bench → Values → Bench
+withValues h v = record { slots = h .slots; values = v; triangles = h .triangles }
 
 -- the new combined matrix of the state t
 abbrev pub combines : State → Bench → Bench
-combines t h = withMatrix h (renewed (h .values .matrix) (t .combined))
+combines t h = withValues h (newMatrix (h .values) (t .combined))
 
 -- ---- load
 
@@ -161,49 +142,24 @@ loads f s first vs v h = record { slots = seated (h .slots) first (map (corner f
 -- a corner with other floats and flags
 abbrev pub screened : Corner → List Float → ℕ → Corner
 screened v l n =
-    record {
-      floats = l;
-      flags = n;
-      matrix = v .matrix;
-      viewport = v .viewport;
-      scale = v .scale;
-      colour = v .colour;
-      lights = v .lights;
-      texgen = v .texgen;
-      fog = v .fog;
-      lookat = v .lookat;
-    }
+    record { floats = l; flags = n; matrix = v .matrix; viewport = v .viewport; scale = v .scale; colour = v .colour; lights = v .lights; texgen = v .texgen; fog = v .fog; lookat = v .lookat }
 
--- a corner with the change made in it: the lights and the fog go with a colour, texgen and lookat with a texture pair
+-- with another colour word: the lights and the fog go
+abbrev pub inked : Corner → ℕ → Corner
+inked v w =
+    record { floats = v .floats; flags = v .flags; matrix = v .matrix; viewport = v .viewport; scale = v .scale; colour = w; lights = []; texgen = v .texgen; fog = none; lookat = v .lookat }
+
+-- with other floats and another scale: texgen and lookat go
+abbrev pub textured : Corner → List Float → List Float → Corner
+textured v l x =
+    record { floats = l; flags = v .flags; matrix = v .matrix; viewport = v .viewport; scale = x; colour = v .colour; lights = v .lights; texgen = 0; fog = v .fog; lookat = none }
+
+-- a corner with the change made in it
 unfoldable pub changedBy : Change → Corner → Corner
-changedBy (Colour w) v =
-    record {
-      floats = v .floats;
-      flags = v .flags;
-      matrix = v .matrix;
-      viewport = v .viewport;
-      scale = v .scale;
-      colour = w;
-      lights = [];
-      texgen = v .texgen;
-      fog = none;
-      lookat = v .lookat;
-    }
-changedBy (Texture x y) v =
-    record {
-      floats = set (set (v .floats) 3 x) 4 y;
-      flags = v .flags;
-      matrix = v .matrix;
-      viewport = v .viewport;
-      scale = unitEntry;
-      colour = v .colour;
-      lights = v .lights;
-      texgen = 0;
-      fog = v .fog;
-      lookat = none;
-    }
-changedBy (Screen x y) v = screened v (set (set (v .floats) 5 x) 6 y) (bitOr (v .flags) 1)
-changedBy (Depth z own) v = screened v (set (v .floats) 7 z) (bitOr (v .flags) 2)
+changedBy (Colour w) v = inked v w
+changedBy (Texture x y) v = textured v (set (set (v .floats) sFloat x) tFloat y) unitEntry
+changedBy (Screen x y) v = screened v (set (set (v .floats) screenX x) screenY y) (bitOr (v .flags) 1)
+changedBy (Depth z own) v = screened v (set (v .floats) screenZ z) (bitOr (v .flags) 2)
 
 -- a change needs the unit scale entry
 abbrev pub scaled : Change → Bool
@@ -212,16 +168,16 @@ scaled (Texture x y) = true
 scaled (Screen x y) = false
 scaled (Depth z own) = false
 
--- the slot's corner changed; the unit scale entry is appended once
+-- values with the unit scale entry last appended where b asks for it, once
+abbrev pub withUnit : Values → Bool → Values
+withUnit v b =
+    record { matrix = v .matrix; viewport = v .viewport; scale = pick (b && not (v .unit)) unitEntry (v .scale); lights = v .lights; lookat = v .lookat; unit = v .unit || b }
+
+-- the slot's corner changed
 unfoldable pub modifies : Asked → ℕ → Bench → Bench
 modifies Unknown slot h = h
 modifies (Known c) slot h =
-    let v = h .values in
-    record {
-      slots = set (h .slots) slot (changedBy c (getD (h .slots) slot noCorner));
-      values = record { matrix = v .matrix; viewport = v .viewport; scale = pick (scaled c && not (v .unit)) unitEntry (v .scale); lights = v .lights; lookat = v .lookat; unit = v .unit || scaled c };
-      triangles = h .triangles;
-    }
+    record { slots = set (h .slots) slot (changedBy c (getD (h .slots) slot noCorner)); values = withUnit (h .values) (scaled c); triangles = h .triangles }
 
 -- ---- draw
 
@@ -248,7 +204,7 @@ unfoldable pub act : Family → Command → State → State → Bench → Bench
 act f (matrix flags bytes at) s t h = combines t h
 act f (force bytes at) s t h = combines t h
 act f (pop count) s t h = pick (eqb (t .depth) (s .depth)) h (combines t h)
-act f (viewport bytes at) s t h = withViewport h (renewed (h .values .viewport) (t .viewport))
+act f (viewport bytes at) s t h = withValues h (newViewport (h .values) (t .viewport))
 act f (geometry off on) s t h = h
 act f (texture tile level on sc tc) s t h = h
 act f (fog multiplier offset) s t h = h
@@ -264,12 +220,12 @@ act f (draw a b c material mode colour prim) s t h =
     pick (both f (s .geometry)) h (withTriangle h (given f s h a b c (material ∷ mode ∷ colour ∷ prim ∷ [])))
 act f (ink colour) s t h = h
 
--- only accepted commands reach the bench
-unfoldable pub obey : Family → Command → Plan → State → Bench → Bench
-obey f c (refuse n vs) s h = h
-obey f c (does vs t e) s h = act f c s t h
+-- only accepted commands reach the bench; F is the family of each microcode, and the one in force before the command counts
+unfoldable pub obey : (ℕ → Family) → Command → Plan → State → Bench → Bench
+obey F c (refuse n vs) s h = h
+obey F c (does vs t e) s h = act (F (s .microcode)) c s t h
 
 -- the bench beside a port, through a sequence of commands of the machine m
-unfoldable pub bench : Family → Machine → List Command → Port → Bench → Bench
-bench f m [] p h = h
-bench f m (c ∷ cs) p h = bench f m cs (step m c p) (obey f c (m c (book p)) (p .state) h)
+unfoldable pub bench : (ℕ → Family) → Machine → List Command → Port → Bench → Bench
+bench F m [] p h = h
+bench F m (c ∷ cs) p h = bench F m cs (step m c p) (obey F c (m c (book p)) (p .state) h)

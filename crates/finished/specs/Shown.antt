@@ -3,11 +3,12 @@ use Prim.Native.Nat.{ℕ, zero, suc, _+_, _*_}
 use mathlib.Core.Bool.{Bool, _&&_}
 use mathlib.Core.List.{List, [], _∷_}
 use mathlib.Core.Option.{Option, none, some}
-use lib.ListN.{getD, take}
+use lib.ListN.{getD, take, drop}
 use lib.Dec.{eqb, leb}
 use lib.IntN.{ℤ}
 use lib.Ieee.{Float}
 use Rattle.areas.specs.Area.{part}
+use Rattle.areas.specs.Widths.{flagsWord, matrixWord, viewportWord, scaleWord, colourWord, lightWord, lightsWord, texgenWord, fogWord, lookatWord, settingsWide, startField, countField}
 use Rattle.stage.specs.Plan.{Row, pick}
 use Rattle.sequence.specs.Sequence.{Book}
 
@@ -53,29 +54,29 @@ abbrev pub fogShown : List (List ℤ) → ℕ → Option (List ℤ)
 fogShown t zero = none
 fogShown t (suc i) = some (getD t i [])
 
--- the row with these numbers, each table number replaced by the entry's values
-unfoldable pub shownBy : Entries → List Float → (flags matrix viewport scale colour first count texgen fog lookat : ℕ) → Corner
-shownBy t floats flags matrix viewport scale colour first count texgen fog lookat =
+-- the row with these f32, and the u32 that word gives by place, each table number replaced by the entry's values
+unfoldable pub shownBy : Entries → List Float → (ℕ → ℕ) → Corner
+shownBy t floats word =
     record {
       floats = floats;
-      flags = flags;
-      matrix = getD (t .matrices) matrix [];
-      viewport = getD (t .viewports) viewport [];
-      scale = getD (t .scales) scale [];
-      colour = colour;
-      lights = part (t .lights) first count;
-      texgen = texgen;
-      fog = fogShown (t .fogs) fog;
-      lookat = pick (eqb texgen 0) none (some (getD (t .lookats) lookat []));
+      flags = word flagsWord;
+      matrix = getD (t .matrices) (word matrixWord) [];
+      viewport = getD (t .viewports) (word viewportWord) [];
+      scale = getD (t .scales) (word scaleWord) [];
+      colour = word colourWord;
+      lights = part (t .lights) (word lightWord) (word lightsWord);
+      texgen = word texgenWord;
+      fog = fogShown (t .fogs) (word fogWord);
+      lookat = pick (eqb (word texgenWord) 0) none (some (getD (t .lookats) (word lookatWord) []));
     }
 
--- number i of a row's ten u32
+-- a row's u32 at place i
 abbrev pub rowWord : Row → ℕ → ℕ
 rowWord r i = getD (r .words) i 0
 
--- a corner shown: modify flags, matrix, viewport, texture scale, colour word, first light, light count, texgen mode, fog, lookat
+-- a corner shown
 unfoldable pub shown : Entries → Row → Corner
-shown t r = shownBy t (r .floats) (rowWord r 0) (rowWord r 1) (rowWord r 2) (rowWord r 3) (rowWord r 4) (rowWord r 5) (rowWord r 6) (rowWord r 7) (rowWord r 8) (rowWord r 9)
+shown t r = shownBy t (r .floats) (rowWord r)
 
 -- a triangle by value
 pub record Triangle : Type 0 where
@@ -83,14 +84,14 @@ pub record Triangle : Type 0 where
   -- material, render mode, fog colour, primitive depth, cull, unclipped
   pub settings : List ℕ
 
--- a run holds the three indices from i on: its start is number 6, its count number 7
-abbrev pub holds : List ℕ → ℕ → Bool
-holds r i = leb (getD r 6 0) i && leb (i + 3) (getD r 6 0 + getD r 7 0)
+-- a run that begins at place o of its entry holds the three indices from i on
+abbrev pub holds : ℕ → List ℕ → ℕ → Bool
+holds o r i = leb (getD r (o + startField) 0) i && leb (i + 3) (getD r (o + startField) 0 + getD r (o + countField) 0)
 
--- the six settings of the first run that holds the three indices from i on
-unfoldable pub settingsAt : List (List ℕ) → ℕ → List ℕ
-settingsAt [] i = []
-settingsAt (r ∷ rs) i = pick (holds r i) (take 6 r) (settingsAt rs i)
+-- the settings of the first run that holds the three indices from i on
+unfoldable pub settingsAt : ℕ → List (List ℕ) → ℕ → List ℕ
+settingsAt o [] i = []
+settingsAt o (r ∷ rs) i = pick (holds o r i) (take settingsWide (drop o r)) (settingsAt o rs i)
 
 -- the row that index i names
 abbrev pub noRow : Row
@@ -108,7 +109,7 @@ unfoldable pub triangleOf : Entries → List Row → List (List ℕ) → List (L
 triangleOf t rows indices runs n =
     record {
       corners = cornerOf t rows indices (3 * n) ∷ cornerOf t rows indices (3 * n + 1) ∷ cornerOf t rows indices (3 * n + 2) ∷ [];
-      settings = settingsAt runs (3 * n);
+      settings = settingsAt 0 runs (3 * n);
     }
 
 -- what triangle n of a book shows

@@ -4,7 +4,8 @@ use Prim.Native.Nat.{ℕ, _/_, _≤_, _<_}
 use mathlib.Core.Path.{_≡_}
 use mathlib.Core.List.{List, [], _++_}
 use lib.ListN.{getD}
-use Rattle.decide.specs.declared.family.Family.{Family}
+use Rattle.decide.specs.Family.{Family}
+use Rattle.stage.specs.declared.State.{State}
 use Rattle.sequence.specs.Sequence.{Command, Areas, Port, Machine, Alike, book, plan, run, opening}
 use Rattle.finished.specs.Shown.{Triangle, triangleAt}
 use Rattle.finished.specs.Bench.{Bench, bench0, bench}
@@ -14,8 +15,8 @@ abbrev pub after : Machine → Areas → List Command → Port
 after m l cs = run m cs (opening l)
 
 -- the bench beside it
-abbrev pub beside : Family → Machine → ℕ → Areas → List Command → Bench
-beside f m slots l cs = bench f m cs (opening l) (bench0 slots)
+abbrev pub beside : (ℕ → Family) → Machine → ℕ → Areas → List Command → Bench
+beside F m seats l cs = bench F m cs (opening l) (bench0 seats)
 
 -- the triangles recorded: three indices each
 abbrev pub recorded : Port → ℕ
@@ -35,14 +36,15 @@ pub record Stands (p : Port) (n : ℕ) (T : Triangle) : Type 0 where
 
 -- A RECORDED TRIANGLE IS FINISHED. x and y: the areas of two sequences, whatever stands in them. cs: what the two have in common. ds and es: what
 -- each goes on with. Triangle n, recorded by the end of cs, shows at the end of both what the bench gave when it was drawn
-abbrev pub Finished : Family → Machine → ℕ → (x y : Areas) (cs ds es : List Command) (n : ℕ) → Type 0
-Finished f m slots x y cs ds es n =
+abbrev pub Finished : (ℕ → Family) → Machine → ℕ → (x y : Areas) (cs ds es : List Command) (n : ℕ) → Type 0
+Finished F m seats x y cs ds es n =
     n < recorded (after m x cs)
-    → Stands (after m x (cs ++ ds)) n (gave (beside f m slots x cs) n) × Stands (after m y (cs ++ es)) n (gave (beside f m slots x cs) n)
+    → Stands (after m x (cs ++ ds)) n (gave (beside F m seats x cs) n) × Stands (after m y (cs ++ es)) n (gave (beside F m seats x cs) n)
 
--- DEMAND 3, of the stage: for every family of flag values, every number of slots up to 256, all areas of equal lengths, whatever stands in them and
--- however little room they have, and all commands
+-- DEMAND 3, of the stage: whatever family of flag values each microcode has, and however many slots a state lets a command name, none above the
+-- bench's seats and these not above 256; for all areas of equal lengths, whatever stands in them and however little room they have; for all commands
 abbrev pub Demand3 : Type 0
 Demand3 =
-    (f : Family) (slots : ℕ) → slots ≤ 256 → (x y : Areas) → Alike x y → (cs ds es : List Command) (n : ℕ)
-    → Finished f (plan f slots) slots x y cs ds es n
+    (F : ℕ → Family) (limit : State → ℕ) (seats : ℕ) → ((s : State) → limit s ≤ seats) → seats ≤ 256
+    → (x y : Areas) → Alike x y → (cs ds es : List Command) (n : ℕ)
+    → Finished F (plan F limit) seats x y cs ds es n

@@ -9,7 +9,8 @@ use lib.ListN.{length, set, length-map}
 use lib.Ieee.{Float}
 use Rattle.areas.specs.Area.{entries, room}
 use Rattle.areas.proofs.Tables.{length-entries, length-write, entries-grow, entries-set}
-use Rattle.decide.specs.declared.family.Family.{Family}
+use Rattle.areas.specs.Widths.{matrixWidth, viewportWidth, scaleWidth, lightWidth, lookatWidth, fogWidth, floatWidth, wordWidth, indexWidth, runWidth}
+use Rattle.decide.specs.Family.{Family}
 use Rattle.stage.specs.declared.State.{State}
 use Rattle.stage.specs.Plan.{table, Edit, keep, grow, patch, Row, rowsOf, rowTable, rowFloats, rowWords, only, Edits, Plan, refuse, does, more, counted, advance, after, carry}
 use Rattle.stage.specs.With.{withCounts}
@@ -82,25 +83,25 @@ counted-only f keep n = refl
 counted-only f (grow es) n = rw (length-map es f)
 counted-only f (patch i e) n = refl
 
-module _ (n : ℕ) (ed : Edit Row) (x : List Float) (y : List ℕ) (a : Sized 9 n (only rowFloats ed) x) (b : Sized 10 n (only rowWords ed) y) where
+module _ (n : ℕ) (ed : Edit Row) (x : List Float) (y : List ℕ) (a : Sized floatWidth n (only rowFloats ed) x) (b : Sized wordWidth n (only rowWords ed) y) where
   -- the rows in use after it lie in both areas
-  rows-fit : (counted ed n * 9 ≤ length (after 9 n (only rowFloats ed) x)) × (counted ed n * 10 ≤ length (after 10 n (only rowWords ed) y))
+  rows-fit : (counted ed n * floatWidth ≤ length (after floatWidth n (only rowFloats ed) x)) × (counted ed n * wordWidth ≤ length (after wordWidth n (only rowWords ed) y))
   rows-fit = (
-    rw (counted-only rowFloats ed n) at (fits-after 9 n (only rowFloats ed) x a),
-    rw (counted-only rowWords ed n) at (fits-after 10 n (only rowWords ed) y b),
+    rw (counted-only rowFloats ed n) at (fits-after floatWidth n (only rowFloats ed) x a),
+    rw (counted-only rowWords ed n) at (fits-after wordWidth n (only rowWords ed) y b),
   )
 
   -- the table after an edit of both areas is the table edited
-  rows-after : n * 9 ≤ length x → n * 10 ≤ length y → rowTable (counted ed n) (after 9 n (only rowFloats ed) x) (after 10 n (only rowWords ed) y) ≡ edited ed (rowTable n x y)
+  rows-after : n * floatWidth ≤ length x → n * wordWidth ≤ length y → rowTable (counted ed n) (after floatWidth n (only rowFloats ed) x) (after wordWidth n (only rowWords ed) y) ≡ edited ed (rowTable n x y)
   rows-after h k =
-      let p : entries 9 (counted ed n) (after 9 n (only rowFloats ed) x) ≡ edit (only rowFloats ed) (entries 9 n x) =
-      rw (counted-only rowFloats ed n) at (entries-after 9 n (only rowFloats ed) x a h) in
-      let q : entries 10 (counted ed n) (after 10 n (only rowWords ed) y) ≡ edit (only rowWords ed) (entries 10 n y) =
-      rw (counted-only rowWords ed n) at (entries-after 10 n (only rowWords ed) y b k) in
-      let u = rows-edit ed (entries 9 n x) (entries 10 n y) (length-entries 9 n x ∙ sym (length-entries 10 n y)) in
-      let v : rowsOf (entries 9 (counted ed n) (after 9 n (only rowFloats ed) x)) (entries 10 (counted ed n) (after 10 n (only rowWords ed) y)) ≡ edit ed (rowsOf (entries 9 n x) (entries 10 n y)) =
+      let p : entries floatWidth (counted ed n) (after floatWidth n (only rowFloats ed) x) ≡ edit (only rowFloats ed) (entries floatWidth n x) =
+      rw (counted-only rowFloats ed n) at (entries-after floatWidth n (only rowFloats ed) x a h) in
+      let q : entries wordWidth (counted ed n) (after wordWidth n (only rowWords ed) y) ≡ edit (only rowWords ed) (entries wordWidth n y) =
+      rw (counted-only rowWords ed n) at (entries-after wordWidth n (only rowWords ed) y b k) in
+      let u = rows-edit ed (entries floatWidth n x) (entries wordWidth n y) (length-entries floatWidth n x ∙ sym (length-entries wordWidth n y)) in
+      let v : rowsOf (entries floatWidth (counted ed n) (after floatWidth n (only rowFloats ed) x)) (entries wordWidth (counted ed n) (after wordWidth n (only rowWords ed) y)) ≡ edit ed (rowsOf (entries floatWidth n x) (entries wordWidth n y)) =
       (λ i. rowsOf (p i) (q i)) ∙ u in
-      λ i. record { used = v i; room = min (room 9 (length-after 9 n (only rowFloats ed) x i)) (room 10 (length-after 10 n (only rowWords ed) y i)) }
+      λ i. record { used = v i; room = min (room floatWidth (length-after floatWidth n (only rowFloats ed) x i)) (room wordWidth (length-after wordWidth n (only rowWords ed) y i)) }
 
 -- ---- the whole port
 
@@ -117,16 +118,16 @@ module _ (p : Port) (h : Fits p) (vs : List ℕ) (t : State) (e : Edits) (z : Al
       let l = p .areas in
       let r = rows-fit (c .rows) (e .rows) (l .floats) (l .words) (z .floats) (z .words) in
       record {
-        matrices = fits-after 16 _ _ _ (z .matrices);
-        viewports = fits-after 6 _ _ _ (z .viewports);
-        scales = fits-after 4 _ _ _ (z .scales);
-        lights = fits-after 6 _ _ _ (z .lights);
-        lookats = fits-after 6 _ _ _ (z .lookats);
-        fogs = fits-after 2 _ _ _ (z .fogs);
+        matrices = fits-after matrixWidth _ _ _ (z .matrices);
+        viewports = fits-after viewportWidth _ _ _ (z .viewports);
+        scales = fits-after scaleWidth _ _ _ (z .scales);
+        lights = fits-after lightWidth _ _ _ (z .lights);
+        lookats = fits-after lookatWidth _ _ _ (z .lookats);
+        fogs = fits-after fogWidth _ _ _ (z .fogs);
         floats = r .0;
         words = r .1;
-        indices = fits-after 1 _ _ _ (z .indices);
-        runs = fits-after 8 _ _ _ (z .runs);
+        indices = fits-after indexWidth _ _ _ (z .indices);
+        runs = fits-after runWidth _ _ _ (z .runs);
       }
 
   -- no area changes its length
@@ -134,16 +135,16 @@ module _ (p : Port) (h : Fits p) (vs : List ℕ) (t : State) (e : Edits) (z : Al
   unfolding carry
   done-alike =
       record {
-        matrices = length-after 16 _ (e .matrices) _;
-        viewports = length-after 6 _ (e .viewports) _;
-        scales = length-after 4 _ (e .scales) _;
-        lights = length-after 6 _ (e .lights) _;
-        lookats = length-after 6 _ (e .lookats) _;
-        fogs = length-after 2 _ (e .fogs) _;
-        floats = length-after 9 _ (only rowFloats (e .rows)) _;
-        words = length-after 10 _ (only rowWords (e .rows)) _;
-        indices = length-after 1 _ (e .indices) _;
-        runs = length-after 8 _ (e .runs) _;
+        matrices = length-after matrixWidth _ (e .matrices) _;
+        viewports = length-after viewportWidth _ (e .viewports) _;
+        scales = length-after scaleWidth _ (e .scales) _;
+        lights = length-after lightWidth _ (e .lights) _;
+        lookats = length-after lookatWidth _ (e .lookats) _;
+        fogs = length-after fogWidth _ (e .fogs) _;
+        floats = length-after floatWidth _ (only rowFloats (e .rows)) _;
+        words = length-after wordWidth _ (only rowWords (e .rows)) _;
+        indices = length-after indexWidth _ (e .indices) _;
+        runs = length-after runWidth _ (e .runs) _;
       }
 
   -- the areas then hold the book with the edits entered
@@ -155,15 +156,15 @@ module _ (p : Port) (h : Fits p) (vs : List ℕ) (t : State) (e : Edits) (z : Al
       λ i.
       record {
         state = withCounts t (advance e c);
-        matrices = table-after 16 (c .matrices) (e .matrices) (l .matrices) (z .matrices) (h .matrices) i;
-        viewports = table-after 6 (c .viewports) (e .viewports) (l .viewports) (z .viewports) (h .viewports) i;
-        scales = table-after 4 (c .scales) (e .scales) (l .scales) (z .scales) (h .scales) i;
-        lights = table-after 6 (c .lights) (e .lights) (l .lights) (z .lights) (h .lights) i;
-        lookats = table-after 6 (c .lookats) (e .lookats) (l .lookats) (z .lookats) (h .lookats) i;
-        fogs = table-after 2 (c .fogs) (e .fogs) (l .fogs) (z .fogs) (h .fogs) i;
+        matrices = table-after matrixWidth (c .matrices) (e .matrices) (l .matrices) (z .matrices) (h .matrices) i;
+        viewports = table-after viewportWidth (c .viewports) (e .viewports) (l .viewports) (z .viewports) (h .viewports) i;
+        scales = table-after scaleWidth (c .scales) (e .scales) (l .scales) (z .scales) (h .scales) i;
+        lights = table-after lightWidth (c .lights) (e .lights) (l .lights) (z .lights) (h .lights) i;
+        lookats = table-after lookatWidth (c .lookats) (e .lookats) (l .lookats) (z .lookats) (h .lookats) i;
+        fogs = table-after fogWidth (c .fogs) (e .fogs) (l .fogs) (z .fogs) (h .fogs) i;
         rows = rows-after (c .rows) (e .rows) (l .floats) (l .words) (z .floats) (z .words) (h .floats) (h .words) i;
-        indices = table-after 1 (c .indices) (e .indices) (l .indices) (z .indices) (h .indices) i;
-        runs = table-after 8 (c .runs) (e .runs) (l .runs) (z .runs) (h .runs) i;
+        indices = table-after indexWidth (c .indices) (e .indices) (l .indices) (z .indices) (h .indices) i;
+        runs = table-after runWidth (c .runs) (e .runs) (l .runs) (z .runs) (h .runs) i;
       }
 
 -- areas are as long as themselves
@@ -191,23 +192,23 @@ carried p h (does vs t e) z = (done-fits p h vs t e z, done-alike p h vs t e z, 
 -- ---- commands
 
 -- ONE COMMAND on the port, and on its book
-pub step-book : (f : Family) (slots : ℕ) (c : Command) (p : Port)
+pub step-book : (F : ℕ → Family) (limit : State → ℕ) (c : Command) (p : Port)
     → Fits p
-    → Fits (step (plan f slots) c p) × Alike (step (plan f slots) c p .areas) (p .areas) × (book (step (plan f slots) c p) ≡ turn (plan f slots c (book p)) (book p))
+    → Fits (step (plan F limit) c p) × Alike (step (plan F limit) c p .areas) (p .areas) × (book (step (plan F limit) c p) ≡ turn (plan F limit c (book p)) (book p))
 unfolding step result
-step-book f slots c p h = carried p h (plan f slots c (book p)) (sized-plan p h f slots c)
+step-book F limit c p h = carried p h (plan F limit c (book p)) (sized-plan p h F limit c)
 
 -- A SEQUENCE on the port, and on its book
-pub run-book : (f : Family) (slots : ℕ) (cs : List Command) (p : Port) → Fits p → Fits (run (plan f slots) cs p) × (book (run (plan f slots) cs p) ≡ course (plan f slots) cs (book p))
+pub run-book : (F : ℕ → Family) (limit : State → ℕ) (cs : List Command) (p : Port) → Fits p → Fits (run (plan F limit) cs p) × (book (run (plan F limit) cs p) ≡ course (plan F limit) cs (book p))
 unfolding run course
-run-book f slots [] p h = (h, refl)
-run-book f slots (c ∷ cs) p h =
-    let s = step-book f slots c p h in
-    let r = run-book f slots cs (step (plan f slots) c p) (s .0) in
-    (r .0, r .1 ∙ ap (course (plan f slots) cs) (s .2))
+run-book F limit [] p h = (h, refl)
+run-book F limit (c ∷ cs) p h =
+    let s = step-book F limit c p h in
+    let r = run-book F limit cs (step (plan F limit) c p) (s .0) in
+    (r .0, r .1 ∙ ap (course (plan F limit) cs) (s .2))
 
 -- two sequences run as one
-pub run-append : (f : Family) (slots : ℕ) (cs ds : List Command) (p : Port) → run (plan f slots) (cs ++ ds) p ≡ run (plan f slots) ds (run (plan f slots) cs p)
+pub run-append : (F : ℕ → Family) (limit : State → ℕ) (cs ds : List Command) (p : Port) → run (plan F limit) (cs ++ ds) p ≡ run (plan F limit) ds (run (plan F limit) cs p)
 unfolding run
-run-append f slots [] ds p = refl
-run-append f slots (c ∷ cs) ds p = run-append f slots cs ds (step (plan f slots) c p)
+run-append F limit [] ds p = refl
+run-append F limit (c ∷ cs) ds p = run-append F limit cs ds (step (plan F limit) c p)

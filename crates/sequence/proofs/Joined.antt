@@ -6,7 +6,8 @@ use mathlib.Core.Bool.{Bool, false}
 use mathlib.Core.List.{List, [], _∷_}
 use lib.IntN.{ℤ}
 use lib.Ieee.{Float}
-use Rattle.decide.specs.declared.family.Family.{Family}
+use Rattle.areas.specs.Widths.{matrixWidth, viewportWidth, scaleWidth, indexWidth, runWidth}
+use Rattle.decide.specs.Family.{Family}
 use Rattle.decide.specs.Lights.{lightNumber}
 use Rattle.stage.specs.declared.State.{State}
 use Rattle.stage.specs.declared.Counts.{Counts}
@@ -115,39 +116,46 @@ module _ {A : Type 0} (put : Areas → A → Areas) (g : Counts → Edits → A 
 
 -- ---- each command
 
-module _ (f : Family) (slots : ℕ) (p : Port) where
+module _ (F : ℕ → Family) (limit : State → ℕ) (p : Port) where
+  -- the family in force, and how many slots a command may name
+  abbrev f : Family
+  f = F (p .state .microcode)
+
+  abbrev slots : ℕ
+  slots = limit (p .state)
+
   -- the combined matrix changes table 1 alone
-  combined : (s : State) (m : List Float) → Accepted (Within with1 area1 (p .state) (p .areas) (p .areas .matrices)) (combine s (table 16 (p .state .counts .matrices) (p .areas .matrices)) m)
+  combined : (s : State) (m : List Float) → Accepted (Within with1 area1 (p .state) (p .areas) (p .areas .matrices)) (combine s (table matrixWidth (p .state .counts .matrices) (p .areas .matrices)) m)
   combined s m = on-combine (Within with1 area1 (p .state) (p .areas) (p .areas .matrices)) s _ m (λ _. refl) (λ _ _. refl)
 
   -- matrix: table 1
   pub joined-matrix : (flags : ℕ) (bytes : List ℕ) (at : ℕ) (r : Answered) (x : List Float)
-      → outcome r x ≡ carry area1 (matrixPlan f (p .state) (table 16 (p .state .counts .matrices) (p .areas .matrices)) flags bytes at) (p .state) (p .areas .matrices)
-      → outcome r (with1 (p .areas) x) ≡ result (plan f slots) (matrix flags bytes at) p
+      → outcome r x ≡ carry area1 (matrixPlan f (p .state) (table matrixWidth (p .state .counts .matrices) (p .areas .matrices)) flags bytes at) (p .state) (p .areas .matrices)
+      → outcome r (with1 (p .areas) x) ≡ result (plan F limit) (matrix flags bytes at) p
   unfolding result plan book
   joined-matrix flags bytes at r x e =
       joined with1 area1 (p .state) (p .areas) _ _ r x refl (on-matrix (Within with1 area1 (p .state) (p .areas) _) f (p .state) _ flags bytes at (λ _ s _. combined s _)) e
 
   -- forced matrix: table 1
   pub joined-force : (bytes : List ℕ) (at : ℕ) (r : Answered) (x : List Float)
-      → outcome r x ≡ carry area1 (forcePlan (p .state) (table 16 (p .state .counts .matrices) (p .areas .matrices)) bytes at) (p .state) (p .areas .matrices)
-      → outcome r (with1 (p .areas) x) ≡ result (plan f slots) (force bytes at) p
+      → outcome r x ≡ carry area1 (forcePlan (p .state) (table matrixWidth (p .state .counts .matrices) (p .areas .matrices)) bytes at) (p .state) (p .areas .matrices)
+      → outcome r (with1 (p .areas) x) ≡ result (plan F limit) (force bytes at) p
   unfolding result plan book
   joined-force bytes at r x e =
       joined with1 area1 (p .state) (p .areas) _ _ r x refl (on-force (Within with1 area1 (p .state) (p .areas) _) (p .state) _ bytes at (λ _. combined (p .state) _)) e
 
   -- pop: table 1
   pub joined-pop : (count : ℕ) (r : Answered) (x : List Float)
-      → outcome r x ≡ carry area1 (popPlan (p .state) (table 16 (p .state .counts .matrices) (p .areas .matrices)) count) (p .state) (p .areas .matrices)
-      → outcome r (with1 (p .areas) x) ≡ result (plan f slots) (pop count) p
+      → outcome r x ≡ carry area1 (popPlan (p .state) (table matrixWidth (p .state .counts .matrices) (p .areas .matrices)) count) (p .state) (p .areas .matrices)
+      → outcome r (with1 (p .areas) x) ≡ result (plan F limit) (pop count) p
   unfolding result plan book
   joined-pop count r x e =
       joined with1 area1 (p .state) (p .areas) _ _ r x refl (on-pop (Within with1 area1 (p .state) (p .areas) _) (p .state) _ count (λ _. refl) (λ _ s _. combined s _)) e
 
   -- viewport: table 2
   pub joined-viewport : (bytes : List ℕ) (at : ℕ) (r : Answered) (x : List Float)
-      → outcome r x ≡ carry area2 (viewportPlan (p .state) (table 6 (p .state .counts .viewports) (p .areas .viewports)) bytes at) (p .state) (p .areas .viewports)
-      → outcome r (with2 (p .areas) x) ≡ result (plan f slots) (viewport bytes at) p
+      → outcome r x ≡ carry area2 (viewportPlan (p .state) (table viewportWidth (p .state .counts .viewports) (p .areas .viewports)) bytes at) (p .state) (p .areas .viewports)
+      → outcome r (with2 (p .areas) x) ≡ result (plan F limit) (viewport bytes at) p
   unfolding result plan book
   joined-viewport bytes at r x e =
       joined with2 area2 (p .state) (p .areas) _ _ r x refl (on-viewport (Within with2 area2 (p .state) (p .areas) _) (p .state) _ bytes at (λ _ _. refl) (λ _ _ _. refl)) e
@@ -155,7 +163,7 @@ module _ (f : Family) (slots : ℕ) (p : Port) where
   -- load: tables 1 and 3 to 7
   pub joined-load : (first count : ℕ) (bytes : List ℕ) (at : ℕ) (r : Answered) (x : LoadAreas)
       → outcome r x ≡ carry areasLoad (loadPlan f slots (p .state) (loadTables (p .state .counts) (loadPart (p .areas))) first count bytes at) (p .state) (loadPart (p .areas))
-      → outcome r (withLoad (p .areas) x) ≡ result (plan f slots) (load first count bytes at) p
+      → outcome r (withLoad (p .areas) x) ≡ result (plan F limit) (load first count bytes at) p
   unfolding result plan book loadEdits
   joined-load first count bytes at r x e =
       joined withLoad areasLoad (p .state) (p .areas) (loadPart (p .areas)) _ r x refl
@@ -164,8 +172,8 @@ module _ (f : Family) (slots : ℕ) (p : Port) where
   -- modify: tables 3 and 7
   pub joined-modify : (slot attribute value : ℕ) (r : Answered) (x : List Float × List Float × List ℕ)
       → let y : List Float × List Float × List ℕ = (p .areas .scales, p .areas .floats, p .areas .words) in
-      outcome r x ≡ carry areas37 (modifyPlan slots (p .state) (table 4 (p .state .counts .scales) (y .0)) (rowTable (p .state .counts .rows) (y .1) (y .2)) slot attribute value) (p .state) y
-      → outcome r (with37 (p .areas) x) ≡ result (plan f slots) (modify slot attribute value) p
+      outcome r x ≡ carry areas37 (modifyPlan slots (p .state) (table scaleWidth (p .state .counts .scales) (y .0)) (rowTable (p .state .counts .rows) (y .1) (y .2)) slot attribute value) (p .state) y
+      → outcome r (with37 (p .areas) x) ≡ result (plan F limit) (modify slot attribute value) p
   unfolding result plan book
   joined-modify slot attribute value r x e =
       joined with37 areas37 (p .state) (p .areas) _ _ r x refl
@@ -174,8 +182,8 @@ module _ (f : Family) (slots : ℕ) (p : Port) where
   -- draw: tables 8 and 9
   pub joined-draw : (a b c material mode colour prim : ℕ) (r : Answered) (x : List ℕ × List ℕ)
       → let y : List ℕ × List ℕ = (p .areas .indices, p .areas .runs) in
-      outcome r x ≡ carry areas89 (drawPlan f slots (p .state) (table 1 (p .state .counts .indices) (y .0)) (table 8 (p .state .counts .runs) (y .1)) a b c (material ∷ mode ∷ colour ∷ prim ∷ [])) (p .state) y
-      → outcome r (with89 (p .areas) x) ≡ result (plan f slots) (draw a b c material mode colour prim) p
+      outcome r x ≡ carry areas89 (drawPlan f slots (p .state) (table indexWidth (p .state .counts .indices) (y .0)) (table runWidth (p .state .counts .runs) (y .1)) a b c (material ∷ mode ∷ colour ∷ prim ∷ [])) (p .state) y
+      → outcome r (with89 (p .areas) x) ≡ result (plan F limit) (draw a b c material mode colour prim) p
   unfolding result plan book
   joined-draw a b c material mode colour prim r x e =
       joined with89 areas89 (p .state) (p .areas) _ _ r x refl
@@ -190,63 +198,63 @@ module _ (f : Family) (slots : ℕ) (p : Port) where
   quiet q r k e = joined withNone nothing (p .state) (p .areas) tt q r tt refl k e
 
   -- geometry mode
-  pub joined-geometry : (off on : ℕ) (r : Answered) → outcome r tt ≡ carry nothing (geometryPlan f (p .state) off on) (p .state) tt → outcome r (p .areas) ≡ result (plan f slots) (geometry off on) p
+  pub joined-geometry : (off on : ℕ) (r : Answered) → outcome r tt ≡ carry nothing (geometryPlan f (p .state) off on) (p .state) tt → outcome r (p .areas) ≡ result (plan F limit) (geometry off on) p
   unfolding result plan book
   joined-geometry off on r e = quiet _ r (on-geometry Quiet (λ _ _. refl) (p .state) f off on) e
 
   -- texture
   pub joined-texture : (tile level : ℕ) (on : Bool) (sc tc : ℕ) (r : Answered) → outcome r tt ≡ carry nothing (texturePlan (p .state) tile level on sc tc) (p .state) tt
-      → outcome r (p .areas) ≡ result (plan f slots) (texture tile level on sc tc) p
+      → outcome r (p .areas) ≡ result (plan F limit) (texture tile level on sc tc) p
   unfolding result plan book
   joined-texture tile level on sc tc r e = quiet _ r (on-texture Quiet (λ _ _. refl) (p .state) tile level on sc tc) e
 
   -- fog
-  pub joined-fog : (multiplier offset : ℤ) (r : Answered) → outcome r tt ≡ carry nothing (fogPlan (p .state) multiplier offset) (p .state) tt → outcome r (p .areas) ≡ result (plan f slots) (fog multiplier offset) p
+  pub joined-fog : (multiplier offset : ℤ) (r : Answered) → outcome r tt ≡ carry nothing (fogPlan (p .state) multiplier offset) (p .state) tt → outcome r (p .areas) ≡ result (plan F limit) (fog multiplier offset) p
   unfolding result plan book
   joined-fog multiplier offset r e = quiet _ r (on-fog Quiet (λ _ _. refl) (p .state) multiplier offset) e
 
   -- number of lights
-  pub joined-number : (bytes : ℕ) (r : Answered) → outcome r tt ≡ carry nothing (numberPlan (p .state) (lightNumber bytes)) (p .state) tt → outcome r (p .areas) ≡ result (plan f slots) (number bytes) p
+  pub joined-number : (bytes : ℕ) (r : Answered) → outcome r tt ≡ carry nothing (numberPlan (p .state) (lightNumber bytes)) (p .state) tt → outcome r (p .areas) ≡ result (plan F limit) (number bytes) p
   unfolding result plan book
   joined-number bytes r e = quiet _ r (on-number Quiet (λ _ _. refl) (p .state) (lightNumber bytes)) e
 
   -- light
   pub joined-light : (slot : ℕ) (bytes : List ℕ) (at : ℕ) (r : Answered) → outcome r tt ≡ carry nothing (lightPlan (p .state) slot bytes at) (p .state) tt
-      → outcome r (p .areas) ≡ result (plan f slots) (light slot bytes at) p
+      → outcome r (p .areas) ≡ result (plan F limit) (light slot bytes at) p
   unfolding result plan book
   joined-light slot bytes at r e = quiet _ r (on-light Quiet (λ _ _. refl) (p .state) slot bytes at) e
 
   -- lookat
   pub joined-lookat : (slot : ℕ) (bytes : List ℕ) (at : ℕ) (r : Answered) → outcome r tt ≡ carry nothing (lookatPlan (p .state) slot bytes at) (p .state) tt
-      → outcome r (p .areas) ≡ result (plan f slots) (lookat slot bytes at) p
+      → outcome r (p .areas) ≡ result (plan F limit) (lookat slot bytes at) p
   unfolding result plan book
   joined-lookat slot bytes at r e = quiet _ r (on-lookat Quiet (λ _ _. refl) (p .state) slot bytes at) e
 
   -- microcode change
-  pub joined-microcode : (to : Microcode) (r : Answered) → outcome r tt ≡ carry nothing (microcodePlan (p .state) to) (p .state) tt → outcome r (p .areas) ≡ result (plan f slots) (microcode to) p
+  pub joined-microcode : (to : Microcode) (r : Answered) → outcome r tt ≡ carry nothing (microcodePlan (p .state) to) (p .state) tt → outcome r (p .areas) ≡ result (plan F limit) (microcode to) p
   unfolding result plan book
   joined-microcode to r e = quiet _ r (on-microcode Quiet (λ _ _. refl) (p .state) to) e
 
   -- cull test
-  pub joined-cull : (first last : ℕ) (r : Answered) → outcome r tt ≡ carry nothing (cullPlan slots (p .state) first last) (p .state) tt → outcome r (p .areas) ≡ result (plan f slots) (cull first last) p
+  pub joined-cull : (first last : ℕ) (r : Answered) → outcome r tt ≡ carry nothing (cullPlan slots (p .state) first last) (p .state) tt → outcome r (p .areas) ≡ result (plan F limit) (cull first last) p
   unfolding result plan book
   joined-cull first last r e = quiet _ r (on-cull Quiet slots (p .state) first last (λ _ _ _. refl)) e
 
   -- depth test
   pub joined-depth : (slot threshold : ℕ) (r : Answered) → outcome r tt ≡ carry nothing (depthPlan slots (p .state) slot threshold) (p .state) tt
-      → outcome r (p .areas) ≡ result (plan f slots) (depth slot threshold) p
+      → outcome r (p .areas) ≡ result (plan F limit) (depth slot threshold) p
   unfolding result plan book
   joined-depth slot threshold r e = quiet _ r (on-depth Quiet slots (p .state) slot threshold (λ _ _. refl)) e
 
   -- ink count: what it reads of tables 7 and 8 stays
   pub joined-ink : (colour : ℕ) (r : Answered)
-      → outcome r tt ≡ carry nothing (inkPlan (p .state) (rowTable (p .state .counts .rows) (p .areas .floats) (p .areas .words)) (table 1 (p .state .counts .indices) (p .areas .indices)) colour) (p .state) tt
-      → outcome r (p .areas) ≡ result (plan f slots) (ink colour) p
+      → outcome r tt ≡ carry nothing (inkPlan (p .state) (rowTable (p .state .counts .rows) (p .areas .floats) (p .areas .words)) (table indexWidth (p .state .counts .indices) (p .areas .indices)) colour) (p .state) tt
+      → outcome r (p .areas) ≡ result (plan F limit) (ink colour) p
   unfolding result plan book
   joined-ink colour r e = quiet _ r (on-ink Quiet (p .state) _ _ colour (λ _. refl)) e
 
   -- what is joined is the next port
-  pub joined-step : (c : Command) (r : Answered) (l : Areas) → outcome r l ≡ result (plan f slots) c p → step (plan f slots) c p ≡ record { state = r .state; areas = l }
+  pub joined-step : (c : Command) (r : Answered) (l : Areas) → outcome r l ≡ result (plan F limit) c p → step (plan F limit) c p ≡ record { state = r .state; areas = l }
   unfolding step
   joined-step c r l e = λ i. record { state = sym e i .state; areas = sym e i .areas }
 

@@ -8,3 +8,4 @@ pub mod Opened
 pub mod Passed
 pub mod Joined
 pub mod Spelled
+pub mod Placed

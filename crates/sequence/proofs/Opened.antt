@@ -9,7 +9,8 @@ use lib.Dec.{leb}
 use lib.Ieee.{Float}
 use borrow.Author.Tests.{le-leb}
 use Rattle.areas.specs.Area.{room}
-use Rattle.decide.specs.declared.family.Family.{Family}
+use Rattle.areas.specs.Widths.{matrixWidth, viewportWidth, scaleWidth, lightWidth, lookatWidth, fogWidth, floatWidth, wordWidth, indexWidth, runWidth}
+use Rattle.decide.specs.Family.{Family}
 use Rattle.matrix.specs.Math.{identity, laid}
 use Rattle.matrix.proofs.Believe.{length-laid}
 use Rattle.stage.specs.declared.State.{State}
@@ -40,15 +41,15 @@ abbrev pub opened-book : Areas → Book
 opened-book l =
     record {
       state = withCounts opened opened-counts;
-      matrices = record { used = laid identity ∷ []; room = room 16 (length (l .matrices)) };
-      viewports = record { used = zeros 6 ∷ []; room = room 6 (length (l .viewports)) };
-      scales = record { used = []; room = room 4 (length (l .scales)) };
-      lights = record { used = []; room = room 6 (length (l .lights)) };
-      lookats = record { used = []; room = room 6 (length (l .lookats)) };
-      fogs = record { used = []; room = room 2 (length (l .fogs)) };
-      rows = record { used = []; room = min (room 9 (length (l .floats))) (room 10 (length (l .words))) };
-      indices = record { used = []; room = room 1 (length (l .indices)) };
-      runs = record { used = []; room = room 8 (length (l .runs)) };
+      matrices = record { used = laid identity ∷ []; room = room matrixWidth (length (l .matrices)) };
+      viewports = record { used = zeros viewportWidth ∷ []; room = room viewportWidth (length (l .viewports)) };
+      scales = record { used = []; room = room scaleWidth (length (l .scales)) };
+      lights = record { used = []; room = room lightWidth (length (l .lights)) };
+      lookats = record { used = []; room = room lookatWidth (length (l .lookats)) };
+      fogs = record { used = []; room = room fogWidth (length (l .fogs)) };
+      rows = record { used = []; room = min (room floatWidth (length (l .floats))) (room wordWidth (length (l .words))) };
+      indices = record { used = []; room = room indexWidth (length (l .indices)) };
+      runs = record { used = []; room = room runWidth (length (l .runs)) };
     }
 
 -- areas of equal lengths open to the same book
@@ -57,15 +58,15 @@ opened-alike x y e =
     λ i.
     record {
       state = withCounts opened opened-counts;
-      matrices = record { used = laid identity ∷ []; room = room 16 (e .matrices i) };
-      viewports = record { used = zeros 6 ∷ []; room = room 6 (e .viewports i) };
-      scales = record { used = []; room = room 4 (e .scales i) };
-      lights = record { used = []; room = room 6 (e .lights i) };
-      lookats = record { used = []; room = room 6 (e .lookats i) };
-      fogs = record { used = []; room = room 2 (e .fogs i) };
-      rows = record { used = []; room = min (room 9 (e .floats i)) (room 10 (e .words i)) };
-      indices = record { used = []; room = room 1 (e .indices i) };
-      runs = record { used = []; room = room 8 (e .runs i) };
+      matrices = record { used = laid identity ∷ []; room = room matrixWidth (e .matrices i) };
+      viewports = record { used = zeros viewportWidth ∷ []; room = room viewportWidth (e .viewports i) };
+      scales = record { used = []; room = room scaleWidth (e .scales i) };
+      lights = record { used = []; room = room lightWidth (e .lights i) };
+      lookats = record { used = []; room = room lookatWidth (e .lookats i) };
+      fogs = record { used = []; room = room fogWidth (e .fogs i) };
+      rows = record { used = []; room = min (room floatWidth (e .floats i)) (room wordWidth (e .words i)) };
+      indices = record { used = []; room = room indexWidth (e .indices i) };
+      runs = record { used = []; room = room runWidth (e .runs i) };
     }
 
 -- the areas before they are opened
@@ -89,11 +90,11 @@ none-used l =
       runs = omega arith;
     }
 
-module _ (l : Areas) (h : 1 ≤ room 16 (length (l .matrices))) (k : 1 ≤ room 6 (length (l .viewports))) where
+module _ (l : Areas) (h : 1 ≤ room matrixWidth (length (l .matrices))) (k : 1 ≤ room viewportWidth (length (l .viewports))) where
   -- where there is room for both entries opening is accepted
   open-plan : openingPlan (l .matrices) (l .viewports) ≡ does [] opened openingEdits
   unfolding openingPlan unless
-  open-plan = rw (le-leb 1 (room 16 (length (l .matrices))) h, le-leb 1 (room 6 (length (l .viewports))) k)
+  open-plan = rw (le-leb 1 (room matrixWidth (length (l .matrices))) h, le-leb 1 (room viewportWidth (length (l .viewports))) k)
 
   -- it is a plan on the areas before
   open-done : opening l ≡ portAfter (does [] opened openingEdits) (unopened l)
@@ -106,16 +107,16 @@ module _ (l : Areas) (h : 1 ≤ room 16 (length (l .matrices))) (k : 1 ≤ room 
   open-sized =
       let z = none-used l in
       record {
-        matrices = fitted 16 0 (grow (laid identity ∷ [])) (l .matrices) (length-laid identity, tt) h;
-        viewports = fitted 6 0 (grow (zeros 6 ∷ [])) (l .viewports) (refl, tt) k;
-        scales = kept 4 0 _ (z .scales);
-        lights = kept 6 0 _ (z .lights);
-        lookats = kept 6 0 _ (z .lookats);
-        fogs = kept 2 0 _ (z .fogs);
-        floats = kept 9 0 _ (z .floats);
-        words = kept 10 0 _ (z .words);
-        indices = kept 1 0 _ (z .indices);
-        runs = kept 8 0 _ (z .runs);
+        matrices = fitted matrixWidth 0 (grow (laid identity ∷ [])) (l .matrices) (length-laid identity, tt) h;
+        viewports = fitted viewportWidth 0 (grow (zeros viewportWidth ∷ [])) (l .viewports) (refl, tt) k;
+        scales = kept scaleWidth 0 _ (z .scales);
+        lights = kept lightWidth 0 _ (z .lights);
+        lookats = kept lookatWidth 0 _ (z .lookats);
+        fogs = kept fogWidth 0 _ (z .fogs);
+        floats = kept floatWidth 0 _ (z .floats);
+        words = kept wordWidth 0 _ (z .words);
+        indices = kept indexWidth 0 _ (z .indices);
+        runs = kept runWidth 0 _ (z .runs);
       }
 
   -- what is entered into an empty book
@@ -124,7 +125,7 @@ module _ (l : Areas) (h : 1 ≤ room 16 (length (l .matrices))) (k : 1 ≤ room 
   open-turn = refl
 
 -- THE BOOK OF AN OPENING
-pub open-book : (l : Areas) → 1 ≤ room 16 (length (l .matrices)) → 1 ≤ room 6 (length (l .viewports)) → Fits (opening l) × (book (opening l) ≡ opened-book l)
+pub open-book : (l : Areas) → 1 ≤ room matrixWidth (length (l .matrices)) → 1 ≤ room viewportWidth (length (l .viewports)) → Fits (opening l) × (book (opening l) ≡ opened-book l)
 unfolding Accepted
 open-book l h k =
     let c = carried (unopened l) (none-used l) (does [] opened openingEdits) (open-sized l h k) in
@@ -141,7 +142,7 @@ refused true false vs ws q l e = refl
 refused false b vs ws q l e = refl
 
 -- AN OPENING THAT IS REFUSED leaves state and areas as they were
-pub open-refused : (l : Areas) → leb 1 (room 16 (length (l .matrices))) && leb 1 (room 6 (length (l .viewports))) ≡ false → opening l ≡ record { state = blank false; areas = l }
+pub open-refused : (l : Areas) → leb 1 (room matrixWidth (length (l .matrices))) && leb 1 (room viewportWidth (length (l .viewports))) ≡ false → opening l ≡ record { state = blank false; areas = l }
 unfolding opening openingPlan
 open-refused l e = refused _ _ _ _ _ l e
 
@@ -153,33 +154,33 @@ unfolding stateSound all unless
 unsound s q h = rw h
 
 -- every command refuses it
-pub shut-plan : (f : Family) (slots : ℕ) (c : Command) (k : Book) → k .state .opened ≡ false → plan f slots c k ≡ refuse 10 []
+pub shut-plan : (F : ℕ → Family) (limit : State → ℕ) (c : Command) (k : Book) → k .state .opened ≡ false → plan F limit c k ≡ refuse 10 []
 unfolding plan matrixPlan forcePlan popPlan viewportPlan geometryPlan texturePlan fogPlan numberPlan lightPlan lookatPlan microcodePlan loadPlan cullPlan depthPlan modifyPlan drawPlan inkPlan
-shut-plan f slots (matrix flags bytes at) k h = unsound (k .state) _ h
-shut-plan f slots (force bytes at) k h = unsound (k .state) _ h
-shut-plan f slots (pop count) k h = unsound (k .state) _ h
-shut-plan f slots (viewport bytes at) k h = unsound (k .state) _ h
-shut-plan f slots (geometry off on) k h = unsound (k .state) _ h
-shut-plan f slots (texture tile level on sc tc) k h = unsound (k .state) _ h
-shut-plan f slots (fog multiplier offset) k h = unsound (k .state) _ h
-shut-plan f slots (number bytes) k h = unsound (k .state) _ h
-shut-plan f slots (light slot bytes at) k h = unsound (k .state) _ h
-shut-plan f slots (lookat slot bytes at) k h = unsound (k .state) _ h
-shut-plan f slots (microcode to) k h = unsound (k .state) _ h
-shut-plan f slots (load first count bytes at) k h = unsound (k .state) _ h
-shut-plan f slots (cull first last) k h = unsound (k .state) _ h
-shut-plan f slots (depth slot threshold) k h = unsound (k .state) _ h
-shut-plan f slots (modify slot attribute value) k h = unsound (k .state) _ h
-shut-plan f slots (draw a b c material mode colour prim) k h = unsound (k .state) _ h
-shut-plan f slots (ink colour) k h = unsound (k .state) _ h
+shut-plan F limit (matrix flags bytes at) k h = unsound (k .state) _ h
+shut-plan F limit (force bytes at) k h = unsound (k .state) _ h
+shut-plan F limit (pop count) k h = unsound (k .state) _ h
+shut-plan F limit (viewport bytes at) k h = unsound (k .state) _ h
+shut-plan F limit (geometry off on) k h = unsound (k .state) _ h
+shut-plan F limit (texture tile level on sc tc) k h = unsound (k .state) _ h
+shut-plan F limit (fog multiplier offset) k h = unsound (k .state) _ h
+shut-plan F limit (number bytes) k h = unsound (k .state) _ h
+shut-plan F limit (light slot bytes at) k h = unsound (k .state) _ h
+shut-plan F limit (lookat slot bytes at) k h = unsound (k .state) _ h
+shut-plan F limit (microcode to) k h = unsound (k .state) _ h
+shut-plan F limit (load first count bytes at) k h = unsound (k .state) _ h
+shut-plan F limit (cull first last) k h = unsound (k .state) _ h
+shut-plan F limit (depth slot threshold) k h = unsound (k .state) _ h
+shut-plan F limit (modify slot attribute value) k h = unsound (k .state) _ h
+shut-plan F limit (draw a b c material mode colour prim) k h = unsound (k .state) _ h
+shut-plan F limit (ink colour) k h = unsound (k .state) _ h
 
 -- and leaves it and the areas
-pub shut : (f : Family) (slots : ℕ) (c : Command) (p : Port) → p .state .opened ≡ false → step (plan f slots) c p ≡ p
+pub shut : (F : ℕ → Family) (limit : State → ℕ) (c : Command) (p : Port) → p .state .opened ≡ false → step (plan F limit) c p ≡ p
 unfolding step result carry book
-shut f slots c p h = rw (shut-plan f slots c (book p) h)
+shut F limit c p h = rw (shut-plan F limit c (book p) h)
 
 -- so does a sequence of commands
-pub run-shut : (f : Family) (slots : ℕ) (cs : List Command) (p : Port) → p .state .opened ≡ false → run (plan f slots) cs p ≡ p
+pub run-shut : (F : ℕ → Family) (limit : State → ℕ) (cs : List Command) (p : Port) → p .state .opened ≡ false → run (plan F limit) cs p ≡ p
 unfolding run
-run-shut f slots [] p h = refl
-run-shut f slots (c ∷ cs) p h = ap (run (plan f slots) cs) (shut f slots c p h) ∙ run-shut f slots cs p h
+run-shut F limit [] p h = refl
+run-shut F limit (c ∷ cs) p h = ap (run (plan F limit) cs) (shut F limit c p h) ∙ run-shut F limit cs p h

@@ -10,6 +10,7 @@ use lib.Dec.{eqb}
 use lib.Ieee.{Float}
 use Rattle.areas.specs.Area.{room, entries, Wide}
 use Rattle.areas.proofs.Tables.{room-fits, length-entries, wide-entries, entry-is, matches-length}
+use Rattle.areas.specs.Widths.{matrixWidth, viewportWidth, scaleWidth, lightWidth, lookatWidth, fogWidth, floatWidth, wordWidth, indexWidth, runWidth, settingsWide}
 use Rattle.decide.specs.Append.{final}
 use Rattle.decide.specs.declared.family.Family.{Family}
 use Rattle.matrix.specs.Math.{rows}
@@ -79,15 +80,15 @@ more-only f (patch i e) = refl
 
 -- an edit of rows that the judge has let through is sized in both areas
 pub fitted-rows : (n : ℕ) (ed : Edit Row) (x : List Float) (y : List ℕ)
-    → EditOk 9 n (only rowFloats ed)
-    → EditOk 10 n (only rowWords ed)
+    → EditOk floatWidth n (only rowFloats ed)
+    → EditOk wordWidth n (only rowWords ed)
     → length (rowTable n x y .used) + more ed ≤ rowTable n x y .room
-    → Sized 9 n (only rowFloats ed) x × Sized 10 n (only rowWords ed) y
+    → Sized floatWidth n (only rowFloats ed) x × Sized wordWidth n (only rowWords ed) y
 fitted-rows n ed x y o q h =
     let e = length-rows n x y in
-    let a : n + more (only rowFloats ed) ≤ room 9 (length x) = rw (more-only rowFloats ed) (omega arith) in
-    let b : n + more (only rowWords ed) ≤ room 10 (length y) = rw (more-only rowWords ed) (omega arith) in
-    (record { wide = o; room = room-fits 9 (length x) _ a .0 }, record { wide = q; room = room-fits 10 (length y) _ b .0 })
+    let a : n + more (only rowFloats ed) ≤ room floatWidth (length x) = rw (more-only rowFloats ed) (omega arith) in
+    let b : n + more (only rowWords ed) ≤ room wordWidth (length y) = rw (more-only rowWords ed) (omega arith) in
+    (record { wide = o; room = room-fits floatWidth (length x) _ a .0 }, record { wide = q; room = room-fits wordWidth (length y) _ b .0 })
 
 -- rows made of vertices, or of anything, have the width that each has
 wide-rows : {A B : Type 0} (g : Row → List A) (w : ℕ) (h : B → Row) → ((v : B) → length (g (h v)) ≡ w) → (vs : List B) → Wide w (map g (map h vs))
@@ -103,56 +104,56 @@ wide-row g w n false i r h k = (h, k)
 -- ---- single edits
 
 -- the matrix that a load appends: where the combined matrix is defined it appends none
-wide-matrix : (n : ℕ) (b c : Bool) (m l : List Float) → length l ≡ 16 → EditOk 16 n (onlyIf (not b && c) (pick b m l ∷ []))
+wide-matrix : (n : ℕ) (b c : Bool) (m l : List Float) → length l ≡ matrixWidth → EditOk matrixWidth n (onlyIf (not b && c) (pick b m l ∷ []))
 unfolding pick
 wide-matrix n true c m l h = tt
 wide-matrix n false true m l h = (h, tt)
 wide-matrix n false false m l h = tt
 
 -- where the last of some runs has the settings asked there is one
-run-some : (us : List (List ℕ)) (q : List ℕ) → length q ≡ 6 → sameRun us q ≡ true → 0 < length us
+run-some : (us : List (List ℕ)) (q : List ℕ) → length q ≡ settingsWide → sameRun us q ≡ true → 0 < length us
 unfolding sameRun
 run-some [] q h e = absurd (false≢true (sym (matches-length eqb [] q (λ z. omega arith)) ∙ e))
 run-some (u ∷ us) q h e = omega arith
 
--- the last run grown, or a run appended, has eight numbers
-wide-run : (us : List (List ℕ)) (n : ℕ) (q : List ℕ) → length q ≡ 6 → Wide 8 us → EditOk 8 (length us) (runEdit us n q)
+-- the last run grown, or a run appended, has the numbers of a run
+wide-run : (us : List (List ℕ)) (n : ℕ) (q : List ℕ) → length q ≡ settingsWide → Wide runWidth us → EditOk runWidth (length us) (runEdit us n q)
 unfolding runEdit pick
 wide-run us n q h k = go (sameRun us q) refl
   where
-    go : (b : Bool) → sameRun us q ≡ b → EditOk 8 (length us) (pick b (patch (length us - 1) (longer (final us))) (grow (runOf q n 3 ∷ [])))
+    go : (b : Bool) → sameRun us q ≡ b → EditOk runWidth (length us) (pick b (patch (length us - 1) (longer (final us))) (grow (runOf q n 3 ∷ [])))
     go true e =
         let s = run-some us q h e in
-        (rw length-set (wide-at 8 us (length us - 1) k (omega arith)), omega arith)
+        (rw length-set (wide-at runWidth us (length us - 1) k (omega arith)), omega arith)
     go false e = (rw (length-append, h), tt)
 
 -- ---- all areas at once
 
 -- the counts of a port are of entries that lie in its areas
 pub record Fits (p : Port) : Type 0 where
-  pub matrices : p .state .counts .matrices * 16 ≤ length (p .areas .matrices)
-  pub viewports : p .state .counts .viewports * 6 ≤ length (p .areas .viewports)
-  pub scales : p .state .counts .scales * 4 ≤ length (p .areas .scales)
-  pub lights : p .state .counts .lights * 6 ≤ length (p .areas .lights)
-  pub lookats : p .state .counts .lookats * 6 ≤ length (p .areas .lookats)
-  pub fogs : p .state .counts .fogs * 2 ≤ length (p .areas .fogs)
-  pub floats : p .state .counts .rows * 9 ≤ length (p .areas .floats)
-  pub words : p .state .counts .rows * 10 ≤ length (p .areas .words)
-  pub indices : p .state .counts .indices * 1 ≤ length (p .areas .indices)
-  pub runs : p .state .counts .runs * 8 ≤ length (p .areas .runs)
+  pub matrices : p .state .counts .matrices * matrixWidth ≤ length (p .areas .matrices)
+  pub viewports : p .state .counts .viewports * viewportWidth ≤ length (p .areas .viewports)
+  pub scales : p .state .counts .scales * scaleWidth ≤ length (p .areas .scales)
+  pub lights : p .state .counts .lights * lightWidth ≤ length (p .areas .lights)
+  pub lookats : p .state .counts .lookats * lookatWidth ≤ length (p .areas .lookats)
+  pub fogs : p .state .counts .fogs * fogWidth ≤ length (p .areas .fogs)
+  pub floats : p .state .counts .rows * floatWidth ≤ length (p .areas .floats)
+  pub words : p .state .counts .rows * wordWidth ≤ length (p .areas .words)
+  pub indices : p .state .counts .indices * indexWidth ≤ length (p .areas .indices)
+  pub runs : p .state .counts .runs * runWidth ≤ length (p .areas .runs)
 
 -- every edit of a command is sized, for the counts c and the areas l
 pub record AllSized (c : Counts) (e : Edits) (l : Areas) : Type 0 where
-  pub matrices : Sized 16 (c .matrices) (e .matrices) (l .matrices)
-  pub viewports : Sized 6 (c .viewports) (e .viewports) (l .viewports)
-  pub scales : Sized 4 (c .scales) (e .scales) (l .scales)
-  pub lights : Sized 6 (c .lights) (e .lights) (l .lights)
-  pub lookats : Sized 6 (c .lookats) (e .lookats) (l .lookats)
-  pub fogs : Sized 2 (c .fogs) (e .fogs) (l .fogs)
-  pub floats : Sized 9 (c .rows) (only rowFloats (e .rows)) (l .floats)
-  pub words : Sized 10 (c .rows) (only rowWords (e .rows)) (l .words)
-  pub indices : Sized 1 (c .indices) (e .indices) (l .indices)
-  pub runs : Sized 8 (c .runs) (e .runs) (l .runs)
+  pub matrices : Sized matrixWidth (c .matrices) (e .matrices) (l .matrices)
+  pub viewports : Sized viewportWidth (c .viewports) (e .viewports) (l .viewports)
+  pub scales : Sized scaleWidth (c .scales) (e .scales) (l .scales)
+  pub lights : Sized lightWidth (c .lights) (e .lights) (l .lights)
+  pub lookats : Sized lookatWidth (c .lookats) (e .lookats) (l .lookats)
+  pub fogs : Sized fogWidth (c .fogs) (e .fogs) (l .fogs)
+  pub floats : Sized floatWidth (c .rows) (only rowFloats (e .rows)) (l .floats)
+  pub words : Sized wordWidth (c .rows) (only rowWords (e .rows)) (l .words)
+  pub indices : Sized indexWidth (c .indices) (e .indices) (l .indices)
+  pub runs : Sized runWidth (c .runs) (e .runs) (l .runs)
 
 -- an accepted plan's edits are sized for the port
 abbrev pub Sizes : Port → List ℕ → State → Edits → Type 0
@@ -163,20 +164,20 @@ module _ (p : Port) (h : Fits p) where
   all-kept : AllSized (p .state .counts) untouched (p .areas)
   all-kept =
       record {
-        matrices = kept 16 _ _ (h .matrices);
-        viewports = kept 6 _ _ (h .viewports);
-        scales = kept 4 _ _ (h .scales);
-        lights = kept 6 _ _ (h .lights);
-        lookats = kept 6 _ _ (h .lookats);
-        fogs = kept 2 _ _ (h .fogs);
-        floats = kept 9 _ _ (h .floats);
-        words = kept 10 _ _ (h .words);
-        indices = kept 1 _ _ (h .indices);
-        runs = kept 8 _ _ (h .runs);
+        matrices = kept matrixWidth _ _ (h .matrices);
+        viewports = kept viewportWidth _ _ (h .viewports);
+        scales = kept scaleWidth _ _ (h .scales);
+        lights = kept lightWidth _ _ (h .lights);
+        lookats = kept lookatWidth _ _ (h .lookats);
+        fogs = kept fogWidth _ _ (h .fogs);
+        floats = kept floatWidth _ _ (h .floats);
+        words = kept wordWidth _ _ (h .words);
+        indices = kept indexWidth _ _ (h .indices);
+        runs = kept runWidth _ _ (h .runs);
       }
 
   -- an edit of table 1 alone
-  all-matrices : (e : Edit (List Float)) → Sized 16 (p .state .counts .matrices) e (p .areas .matrices) → AllSized (p .state .counts) (edits1 e) (p .areas)
+  all-matrices : (e : Edit (List Float)) → Sized matrixWidth (p .state .counts .matrices) e (p .areas .matrices) → AllSized (p .state .counts) (edits1 e) (p .areas)
   all-matrices e k =
       record {
         matrices = k;
@@ -192,7 +193,7 @@ module _ (p : Port) (h : Fits p) where
       }
 
   -- of table 2 alone
-  all-viewports : (e : Edit (List Float)) → Sized 6 (p .state .counts .viewports) e (p .areas .viewports) → AllSized (p .state .counts) (edits2 e) (p .areas)
+  all-viewports : (e : Edit (List Float)) → Sized viewportWidth (p .state .counts .viewports) e (p .areas .viewports) → AllSized (p .state .counts) (edits2 e) (p .areas)
   all-viewports e k =
       record {
         matrices = all-kept .matrices;
@@ -208,18 +209,18 @@ module _ (p : Port) (h : Fits p) where
       }
 
   -- m becomes the combined matrix
-  sized-combine : (s : State) (m : List Float) → length m ≡ 16 → Accepted (Sizes p) (combine s (table 16 (p .state .counts .matrices) (p .areas .matrices)) m)
+  sized-combine : (s : State) (m : List Float) → length m ≡ matrixWidth → Accepted (Sizes p) (combine s (table matrixWidth (p .state .counts .matrices) (p .areas .matrices)) m)
   sized-combine s m e =
       let n = p .state .counts .matrices in
       let l = p .areas .matrices in
-      on-combine (Sizes p) s (table 16 n l) m
+      on-combine (Sizes p) s (table matrixWidth n l) m
       (λ _. all-kept)
-      (λ _ k. all-matrices (grow (m ∷ [])) (fitted 16 n (grow (m ∷ [])) l (e, tt) k))
+      (λ _ k. all-matrices (grow (m ∷ [])) (fitted matrixWidth n (grow (m ∷ [])) l (e, tt) k))
 
   -- what a load gives each table is sized, where the matrix and the scales that are settled have their widths
   sized-edits : (d : Settled) (vs : List Vertex)
-      → EditOk 16 (p .state .counts .matrices) (onlyIf (d .newmatrix) (d .combined ∷ []))
-      → length (d .scales) ≡ 4
+      → EditOk matrixWidth (p .state .counts .matrices) (onlyIf (d .newmatrix) (d .combined ∷ []))
+      → length (d .scales) ≡ scaleWidth
       → Fit (loadLent (loadOf (book p)) (loadEdits d (p .state) vs))
       → AllSized (p .state .counts) (loadEdits d (p .state) vs) (p .areas)
   unfolding loadEdits book
@@ -230,16 +231,16 @@ module _ (p : Port) (h : Fits p) where
       let o = sharedBy d s in
       let r =
       fitted-rows (c .rows) (grow (map (vertexRow o) vs)) (l .floats) (l .words)
-      (wide-rows rowFloats 9 (vertexRow o) floats-size vs)
-      (wide-rows rowWords 10 (vertexRow o) (words-size o) vs)
+      (wide-rows rowFloats floatWidth (vertexRow o) floats-size vs)
+      (wide-rows rowWords wordWidth (vertexRow o) (words-size o) vs)
       (k .1 .1 .1 .1 .1 .0) in
       record {
-        matrices = fitted 16 (c .matrices) _ (l .matrices) m (k .0);
+        matrices = fitted matrixWidth (c .matrices) _ (l .matrices) m (k .0);
         viewports = all-kept .viewports;
-        scales = fitted 4 (c .scales) _ (l .scales) (wide-if 4 _ (d .newscale) (d .scales ∷ []) (e, tt)) (k .1 .0);
-        lights = fitted 6 (c .lights) _ (l .lights) (wide-if 6 _ (d .newlights) _ (wide-lights (rows (d .model) 0) (s .lights .directions) (s .lights .colours) (s .lights .ambient) (s .lights .number))) (k .1 .1 .0);
-        lookats = fitted 6 (c .lookats) _ (l .lookats) (wide-if 6 _ (d .newlookat) _ (length-lookat (rows (d .model) 0) (s .lookat .axes), tt)) (k .1 .1 .1 .0);
-        fogs = fitted 2 (c .fogs) _ (l .fogs) (wide-if 2 _ (d .newfog) (fogPair s ∷ []) (refl, tt)) (k .1 .1 .1 .1 .0);
+        scales = fitted scaleWidth (c .scales) _ (l .scales) (wide-if scaleWidth _ (d .newscale) (d .scales ∷ []) (e, tt)) (k .1 .0);
+        lights = fitted lightWidth (c .lights) _ (l .lights) (wide-if lightWidth _ (d .newlights) _ (wide-lights (rows (d .model) 0) (s .lights .directions) (s .lights .colours) (s .lights .ambient) (s .lights .number))) (k .1 .1 .0);
+        lookats = fitted lookatWidth (c .lookats) _ (l .lookats) (wide-if lookatWidth _ (d .newlookat) _ (length-lookat (rows (d .model) 0) (s .lookat .axes), tt)) (k .1 .1 .1 .0);
+        fogs = fitted fogWidth (c .fogs) _ (l .fogs) (wide-if fogWidth _ (d .newfog) (fogPair s ∷ []) (refl, tt)) (k .1 .1 .1 .1 .0);
         floats = r .0;
         words = r .1;
         indices = all-kept .indices;
@@ -256,26 +257,26 @@ module _ (p : Port) (h : Fits p) where
       (wide-matrix _ (p .state .defined) _ (p .state .combined) _ (length-laid _))
       (length-scale (p .state .texture .sc) (p .state .texture .tc)) k)
 
-  -- a row in use has 9 f32 and 10 u32
+  -- a row in use has the numbers of a row
   pub row-wide : (i : ℕ) → i < p .state .counts .rows
       → let r = getD (rowTable (p .state .counts .rows) (p .areas .floats) (p .areas .words) .used) i (record { floats = []; words = [] }) in
-      (length (r .floats) ≡ 9) × (length (r .words) ≡ 10)
+      (length (r .floats) ≡ floatWidth) × (length (r .words) ≡ wordWidth)
   row-wide i k =
       let n = p .state .counts .rows in
       let x = p .areas .floats in
       let y = p .areas .words in (
-        rw (row-at n x y i k, ← entry-is 9 n i x k) (wide-at 9 (entries 9 n x) i (wide-entries 9 n x (h .floats)) (rw length-entries k)),
-        rw (row-at n x y i k, ← entry-is 10 n i y k) (wide-at 10 (entries 10 n y) i (wide-entries 10 n y (h .words)) (rw length-entries k)),
+        rw (row-at n x y i k, ← entry-is floatWidth n i x k) (wide-at floatWidth (entries floatWidth n x) i (wide-entries floatWidth n x (h .floats)) (rw length-entries k)),
+        rw (row-at n x y i k, ← entry-is wordWidth n i y k) (wide-at wordWidth (entries wordWidth n y) i (wide-entries wordWidth n y (h .words)) (rw length-entries k)),
       )
 
   -- a modify
-  sized-modify : (slots slot attribute value : ℕ) → Accepted (Sizes p) (modifyPlan slots (p .state) (table 4 (p .state .counts .scales) (p .areas .scales)) (rowTable (p .state .counts .rows) (p .areas .floats) (p .areas .words)) slot attribute value)
+  sized-modify : (slots slot attribute value : ℕ) → Accepted (Sizes p) (modifyPlan slots (p .state) (table scaleWidth (p .state .counts .scales) (p .areas .scales)) (rowTable (p .state .counts .rows) (p .areas .floats) (p .areas .words)) slot attribute value)
   sized-modify slots slot attribute value =
       let s = p .state in
       let n = s .counts .scales in
       let m = s .counts .rows in
       let i = getD (s .row) slot 0 in
-      let t = table 4 n (p .areas .scales) in
+      let t = table scaleWidth n (p .areas .scales) in
       let u = rowTable m (p .areas .floats) (p .areas .words) in
       on-modify (Sizes p) slots s t u slot attribute value
       (λ c _ _ _ b k.
@@ -283,13 +284,13 @@ module _ (p : Port) (h : Fits p) where
       let w = row-wide i b in
       let r =
       fitted-rows m (rowChange c g s u slot) (p .areas .floats) (p .areas .words)
-      (wide-row rowFloats 9 m (getD (s .drawn) slot false) i _ (floats-kept c _ ∙ w .0) b)
-      (wide-row rowWords 10 m (getD (s .drawn) slot false) i _ (words-kept c (g .unit - 1) _ ∙ w .1) b)
+      (wide-row rowFloats floatWidth m (getD (s .drawn) slot false) i _ (floats-kept c _ ∙ w .0) b)
+      (wide-row rowWords wordWidth m (getD (s .drawn) slot false) i _ (words-kept c (g .unit - 1) _ ∙ w .1) b)
       (k .1 .0) in
       record {
         matrices = all-kept .matrices;
         viewports = all-kept .viewports;
-        scales = fitted 4 n (scaleEdit c s) (p .areas .scales) (wide-if 4 n (appends c (s .unit)) (unitEntry ∷ []) (refl, tt)) (k .0);
+        scales = fitted scaleWidth n (scaleEdit c s) (p .areas .scales) (wide-if scaleWidth n (appends c (s .unit)) (unitEntry ∷ []) (refl, tt)) (k .0);
         lights = all-kept .lights;
         lookats = all-kept .lookats;
         fogs = all-kept .fogs;
@@ -301,7 +302,7 @@ module _ (p : Port) (h : Fits p) where
 
   -- a draw
   sized-draw : (f : Family) (slots a b c : ℕ) (asked : List ℕ) → length asked ≡ 4
-      → Accepted (Sizes p) (drawPlan f slots (p .state) (table 1 (p .state .counts .indices) (p .areas .indices)) (table 8 (p .state .counts .runs) (p .areas .runs)) a b c asked)
+      → Accepted (Sizes p) (drawPlan f slots (p .state) (table indexWidth (p .state .counts .indices) (p .areas .indices)) (table runWidth (p .state .counts .runs) (p .areas .runs)) a b c asked)
   sized-draw f slots a b c asked q =
       let s = p .state in
       let n = s .counts .indices in
@@ -309,10 +310,10 @@ module _ (p : Port) (h : Fits p) where
       let x = p .areas .indices in
       let y = p .areas .runs in
       let z = settings asked (culls f (s .geometry)) (s .microcode) in
-      let e : length z ≡ 6 = rw (length-append, q) in
-      let o : EditOk 8 m (runEdit (entries 8 m y) (length (entries 1 n x)) z) =
-      rw (length-entries 8 m y) at (wide-run (entries 8 m y) (length (entries 1 n x)) z e (wide-entries 8 m y (h .runs))) in
-      on-draw (Sizes p) f slots s (table 1 n x) (table 8 m y) a b c asked
+      let e : length z ≡ settingsWide = rw (length-append, q) in
+      let o : EditOk runWidth m (runEdit (entries runWidth m y) (length (entries indexWidth n x)) z) =
+      rw (length-entries runWidth m y) at (wide-run (entries runWidth m y) (length (entries indexWidth n x)) z e (wide-entries runWidth m y (h .runs))) in
+      on-draw (Sizes p) f slots s (table indexWidth n x) (table runWidth m y) a b c asked
       (λ _. all-kept)
       (λ _ _ _ _ k.
       record {
@@ -324,33 +325,33 @@ module _ (p : Port) (h : Fits p) where
         fogs = all-kept .fogs;
         floats = all-kept .floats;
         words = all-kept .words;
-        indices = fitted 1 n (grow (triangle f s a b c)) x (refl, (refl, (refl, tt))) (k .0);
-        runs = fitted 8 m _ y o (k .1 .0);
+        indices = fitted indexWidth n (grow (triangle f s a b c)) x (refl, (refl, (refl, tt))) (k .0);
+        runs = fitted runWidth m _ y o (k .1 .0);
       })
 
   -- EVERY ACCEPTED PLAN IS SIZED
-  pub sized-plan : (f : Family) (slots : ℕ) (c : Command) → Accepted (Sizes p) (plan f slots c (book p))
+  pub sized-plan : (F : ℕ → Family) (limit : State → ℕ) (c : Command) → Accepted (Sizes p) (plan F limit c (book p))
   unfolding plan book
-  sized-plan f slots (matrix flags bytes at) = on-matrix (Sizes p) f (p .state) _ flags bytes at (λ _ s _. sized-combine s _ (length-laid _))
-  sized-plan f slots (force bytes at) = on-force (Sizes p) (p .state) _ bytes at (λ _. sized-combine (p .state) _ (length-laid _))
-  sized-plan f slots (pop count) = on-pop (Sizes p) (p .state) _ count (λ _. all-kept) (λ _ s _. sized-combine s _ (length-laid _))
-  sized-plan f slots (viewport bytes at) =
+  sized-plan F limit (matrix flags bytes at) = on-matrix (Sizes p) (F (p .state .microcode)) (p .state) _ flags bytes at (λ _ s _. sized-combine s _ (length-laid _))
+  sized-plan F limit (force bytes at) = on-force (Sizes p) (p .state) _ bytes at (λ _. sized-combine (p .state) _ (length-laid _))
+  sized-plan F limit (pop count) = on-pop (Sizes p) (p .state) _ count (λ _. all-kept) (λ _ s _. sized-combine s _ (length-laid _))
+  sized-plan F limit (viewport bytes at) =
       let n = p .state .counts .viewports in
       let l = p .areas .viewports in
       let v = pair-sizes bytes at in
-      on-viewport (Sizes p) (p .state) (table 6 n l) bytes at
+      on-viewport (Sizes p) (p .state) (table viewportWidth n l) bytes at
       (λ _ _. all-kept)
-      (λ _ _ k. all-viewports (grow (viewportEntry bytes at ∷ [])) (fitted 6 n (grow (viewportEntry bytes at ∷ [])) l (rw (length-append, v .0, v .1), tt) k))
-  sized-plan f slots (geometry off on) = on-geometry (Sizes p) (λ _ _. all-kept) (p .state) f off on
-  sized-plan f slots (texture tile level on sc tc) = on-texture (Sizes p) (λ _ _. all-kept) (p .state) tile level on sc tc
-  sized-plan f slots (fog multiplier offset) = on-fog (Sizes p) (λ _ _. all-kept) (p .state) multiplier offset
-  sized-plan f slots (number bytes) = on-number (Sizes p) (λ _ _. all-kept) (p .state) _
-  sized-plan f slots (light slot bytes at) = on-light (Sizes p) (λ _ _. all-kept) (p .state) slot bytes at
-  sized-plan f slots (lookat slot bytes at) = on-lookat (Sizes p) (λ _ _. all-kept) (p .state) slot bytes at
-  sized-plan f slots (microcode to) = on-microcode (Sizes p) (λ _ _. all-kept) (p .state) to
-  sized-plan f slots (load first count bytes at) = sized-load f slots first count bytes at
-  sized-plan f slots (cull first last) = on-cull (Sizes p) slots (p .state) first last (λ _ _ _. all-kept)
-  sized-plan f slots (depth slot threshold) = on-depth (Sizes p) slots (p .state) slot threshold (λ _ _. all-kept)
-  sized-plan f slots (modify slot attribute value) = sized-modify slots slot attribute value
-  sized-plan f slots (draw a b c material mode colour prim) = sized-draw f slots a b c (material ∷ mode ∷ colour ∷ prim ∷ []) refl
-  sized-plan f slots (ink colour) = on-ink (Sizes p) (p .state) _ _ colour (λ _. all-kept)
+      (λ _ _ k. all-viewports (grow (viewportEntry bytes at ∷ [])) (fitted viewportWidth n (grow (viewportEntry bytes at ∷ [])) l (rw (length-append, v .0, v .1), tt) k))
+  sized-plan F limit (geometry off on) = on-geometry (Sizes p) (λ _ _. all-kept) (p .state) (F (p .state .microcode)) off on
+  sized-plan F limit (texture tile level on sc tc) = on-texture (Sizes p) (λ _ _. all-kept) (p .state) tile level on sc tc
+  sized-plan F limit (fog multiplier offset) = on-fog (Sizes p) (λ _ _. all-kept) (p .state) multiplier offset
+  sized-plan F limit (number bytes) = on-number (Sizes p) (λ _ _. all-kept) (p .state) _
+  sized-plan F limit (light slot bytes at) = on-light (Sizes p) (λ _ _. all-kept) (p .state) slot bytes at
+  sized-plan F limit (lookat slot bytes at) = on-lookat (Sizes p) (λ _ _. all-kept) (p .state) slot bytes at
+  sized-plan F limit (microcode to) = on-microcode (Sizes p) (λ _ _. all-kept) (p .state) to
+  sized-plan F limit (load first count bytes at) = sized-load (F (p .state .microcode)) (limit (p .state)) first count bytes at
+  sized-plan F limit (cull first last) = on-cull (Sizes p) (limit (p .state)) (p .state) first last (λ _ _ _. all-kept)
+  sized-plan F limit (depth slot threshold) = on-depth (Sizes p) (limit (p .state)) (p .state) slot threshold (λ _ _. all-kept)
+  sized-plan F limit (modify slot attribute value) = sized-modify (limit (p .state)) slot attribute value
+  sized-plan F limit (draw a b c material mode colour prim) = sized-draw (F (p .state .microcode)) (limit (p .state)) a b c (material ∷ mode ∷ colour ∷ prim ∷ []) refl
+  sized-plan F limit (ink colour) = on-ink (Sizes p) (p .state) _ _ colour (λ _. all-kept)

@@ -7,7 +7,8 @@ use mathlib.Core.Path.{_≡_}
 use lib.ListN.{length}
 use lib.IntN.{ℤ}
 use lib.Ieee.{Float}
-use Rattle.decide.specs.declared.family.Family.{Family}
+use Rattle.areas.specs.Widths.{matrixWidth, viewportWidth, scaleWidth, lightWidth, lookatWidth, fogWidth, floatWidth, wordWidth, indexWidth, runWidth}
+use Rattle.decide.specs.Family.{Family}
 use Rattle.decide.specs.Lights.{lightNumber}
 use Rattle.stage.specs.declared.State.{State}
 use Rattle.stage.specs.declared.Counts.{Counts}
@@ -91,59 +92,59 @@ book p =
     let l = p .areas in
     record {
       state = p .state;
-      matrices = table 16 (c .matrices) (l .matrices);
-      viewports = table 6 (c .viewports) (l .viewports);
-      scales = table 4 (c .scales) (l .scales);
-      lights = table 6 (c .lights) (l .lights);
-      lookats = table 6 (c .lookats) (l .lookats);
-      fogs = table 2 (c .fogs) (l .fogs);
+      matrices = table matrixWidth (c .matrices) (l .matrices);
+      viewports = table viewportWidth (c .viewports) (l .viewports);
+      scales = table scaleWidth (c .scales) (l .scales);
+      lights = table lightWidth (c .lights) (l .lights);
+      lookats = table lookatWidth (c .lookats) (l .lookats);
+      fogs = table fogWidth (c .fogs) (l .fogs);
       rows = rowTable (c .rows) (l .floats) (l .words);
-      indices = table 1 (c .indices) (l .indices);
-      runs = table 8 (c .runs) (l .runs);
+      indices = table indexWidth (c .indices) (l .indices);
+      runs = table runWidth (c .runs) (l .runs);
     }
 
 -- the tables of a load
 abbrev pub loadOf : Book → LoadTables
 loadOf k = record { matrices = k .matrices; scales = k .scales; lights = k .lights; lookats = k .lookats; fogs = k .fogs; rows = k .rows }
 
--- the plan of each command, for a family of microcodes and a number of slots
-unfoldable pub plan : Family → ℕ → Command → Book → Plan
-plan f slots (matrix flags bytes at) k = matrixPlan f (k .state) (k .matrices) flags bytes at
-plan f slots (force bytes at) k = forcePlan (k .state) (k .matrices) bytes at
-plan f slots (pop count) k = popPlan (k .state) (k .matrices) count
-plan f slots (viewport bytes at) k = viewportPlan (k .state) (k .viewports) bytes at
-plan f slots (geometry off on) k = geometryPlan f (k .state) off on
-plan f slots (texture tile level on sc tc) k = texturePlan (k .state) tile level on sc tc
-plan f slots (fog multiplier offset) k = fogPlan (k .state) multiplier offset
-plan f slots (number bytes) k = numberPlan (k .state) (lightNumber bytes)
-plan f slots (light slot bytes at) k = lightPlan (k .state) slot bytes at
-plan f slots (lookat slot bytes at) k = lookatPlan (k .state) slot bytes at
-plan f slots (microcode to) k = microcodePlan (k .state) to
-plan f slots (load first count bytes at) k = loadPlan f slots (k .state) (loadOf k) first count bytes at
-plan f slots (cull first last) k = cullPlan slots (k .state) first last
-plan f slots (depth slot threshold) k = depthPlan slots (k .state) slot threshold
-plan f slots (modify slot attribute value) k = modifyPlan slots (k .state) (k .scales) (k .rows) slot attribute value
-plan f slots (draw a b c material mode colour prim) k =
-    drawPlan f slots (k .state) (k .indices) (k .runs) a b c (material ∷ mode ∷ colour ∷ prim ∷ [])
-plan f slots (ink colour) k = inkPlan (k .state) (k .rows) (k .indices) colour
+-- the plan of each command: F is the family of each microcode, limit how many slots a command may name in a state
+unfoldable pub plan : (ℕ → Family) → (State → ℕ) → Command → Book → Plan
+plan F limit (matrix flags bytes at) k = matrixPlan (F (k .state .microcode)) (k .state) (k .matrices) flags bytes at
+plan F limit (force bytes at) k = forcePlan (k .state) (k .matrices) bytes at
+plan F limit (pop count) k = popPlan (k .state) (k .matrices) count
+plan F limit (viewport bytes at) k = viewportPlan (k .state) (k .viewports) bytes at
+plan F limit (geometry off on) k = geometryPlan (F (k .state .microcode)) (k .state) off on
+plan F limit (texture tile level on sc tc) k = texturePlan (k .state) tile level on sc tc
+plan F limit (fog multiplier offset) k = fogPlan (k .state) multiplier offset
+plan F limit (number bytes) k = numberPlan (k .state) (lightNumber bytes)
+plan F limit (light slot bytes at) k = lightPlan (k .state) slot bytes at
+plan F limit (lookat slot bytes at) k = lookatPlan (k .state) slot bytes at
+plan F limit (microcode to) k = microcodePlan (k .state) to
+plan F limit (load first count bytes at) k = loadPlan (F (k .state .microcode)) (limit (k .state)) (k .state) (loadOf k) first count bytes at
+plan F limit (cull first last) k = cullPlan (limit (k .state)) (k .state) first last
+plan F limit (depth slot threshold) k = depthPlan (limit (k .state)) (k .state) slot threshold
+plan F limit (modify slot attribute value) k = modifyPlan (limit (k .state)) (k .state) (k .scales) (k .rows) slot attribute value
+plan F limit (draw a b c material mode colour prim) k =
+    drawPlan (F (k .state .microcode)) (limit (k .state)) (k .state) (k .indices) (k .runs) a b c (material ∷ mode ∷ colour ∷ prim ∷ [])
+plan F limit (ink colour) k = inkPlan (k .state) (k .rows) (k .indices) colour
 
 -- all ten areas after a command's edits; a number that no edit names stays
 abbrev pub afterAll : Counts → Edits → Areas → Areas
 afterAll c e l =
     record {
-      matrices = after 16 (c .matrices) (e .matrices) (l .matrices);
-      viewports = after 6 (c .viewports) (e .viewports) (l .viewports);
-      scales = after 4 (c .scales) (e .scales) (l .scales);
-      lights = after 6 (c .lights) (e .lights) (l .lights);
-      lookats = after 6 (c .lookats) (e .lookats) (l .lookats);
-      fogs = after 2 (c .fogs) (e .fogs) (l .fogs);
-      floats = after 9 (c .rows) (only rowFloats (e .rows)) (l .floats);
-      words = after 10 (c .rows) (only rowWords (e .rows)) (l .words);
-      indices = after 1 (c .indices) (e .indices) (l .indices);
-      runs = after 8 (c .runs) (e .runs) (l .runs);
+      matrices = after matrixWidth (c .matrices) (e .matrices) (l .matrices);
+      viewports = after viewportWidth (c .viewports) (e .viewports) (l .viewports);
+      scales = after scaleWidth (c .scales) (e .scales) (l .scales);
+      lights = after lightWidth (c .lights) (e .lights) (l .lights);
+      lookats = after lookatWidth (c .lookats) (e .lookats) (l .lookats);
+      fogs = after fogWidth (c .fogs) (e .fogs) (l .fogs);
+      floats = after floatWidth (c .rows) (only rowFloats (e .rows)) (l .floats);
+      words = after wordWidth (c .rows) (only rowWords (e .rows)) (l .words);
+      indices = after indexWidth (c .indices) (e .indices) (l .indices);
+      runs = after runWidth (c .runs) (e .runs) (l .runs);
     }
 
--- a machine says what each command does to a book; the stage is `plan f slots`
+-- a machine says what each command does to a book; the stage is `plan F limit`
 abbrev pub Machine : Type 0
 Machine = Command → Book → Plan
 
