@@ -14,7 +14,7 @@ use Rattle.sequence.specs.Sequence.{Book}
 use Rattle.sequence.proofs.Spelled.{spells}
 use Rattle.finished.specs.Shown.{entriesOf, fogShown, noRow, shownBy, shown}
 use Rattle.original.specs.Walk.{World}
-use Rattle.original.specs.Relation.{over, Offsets, Meets, joined, fours, word, Same, seen, CornersSame}
+use Rattle.original.specs.Relation.{over, Offsets, Meets, joined, fours, word, Same, compared, seen, CornersSame}
 use Rattle.original.specs.Domain.{Met}
 use Rattle.original.proofs.RowsOf.{made-of, row-read}
 
@@ -43,24 +43,24 @@ map-part {A} {B} g (x ∷ l) zero (suc n) = ap (λ (t : List B). g x ∷ t) (map
 map-part g (x ∷ l) (suc i) n = map-part g l i n
 
 module _ {o : Offsets} {k : Book} {w : World} (S : Same o k w) where
-  corner-same : (r : Row) → length (r .floats) ≡ 9 → o .port2 ≤ word 2 r → o .port3 ≤ word 3 r → shown (entriesOf k) r ≡ seen w (made-of o r)
+  corner-same : (r : Row) → length (r .floats) ≡ 9 → o .port2 ≤ word 2 r → o .port3 ≤ word 3 r → compared (shown (entriesOf k) r) ≡ seen w (made-of o r)
   unfolding shown shownBy seen made-of
   corner-same r n a b = λ i.
       record {
         floats = spells nan (r .floats) 9 n i;
         flags = word 0 r;
-        matrix = getD (S .matrices .table i) (word 1 r) [];
-        viewport = (meets-at (S .view .table) (word 2 r) a ∙ List·getD-map joined (w .rsp .viewports .viewport-table) _ ([], [])) i;
-        scale = (meets-at (S .scales .table) (word 3 r) b ∙ fours-at (w .rsp .texcoords .texcoord-table) (w .rsp .texcoords .texgen-scale-table) (S .scales .beside) (over (o .port3) (o .rust3) (word 3 r))) i;
+        matrix = getD (S .space .matrices .table i) (word 1 r) [];
+        viewport = (meets-at (S .space .view .table) (word 2 r) a ∙ List·getD-map joined (w .rsp .viewports .viewport-table) _ ([], [])) i;
+        scale = (meets-at (S .held .scales .table) (word 3 r) b ∙ fours-at (w .rsp .texcoords .texcoord-table) (w .rsp .texcoords .texgen-scale-table) (S .held .scales .beside) (over (o .port3) (o .rust3) (word 3 r))) i;
         colour = word 4 r;
-        lights = (ap (λ t. part t (word 5 r) (word 6 r)) (S .recorded .light-table) ∙ map-part joined (w .scene .lights-table) (word 5 r) (word 6 r)) i;
+        lights = (ap (λ t. part t (word 5 r) (word 6 r)) (S .held .recorded .light-table) ∙ map-part joined (w .scene .lights-table) (word 5 r) (word 6 r)) i;
         texgen = word 7 r;
-        fog = fogShown (S .recorded .fog-table i) (word 8 r);
-        lookat = pick (eqb (word 7 r) 0) none (some ((ap (λ t. getD t (word 9 r) []) (S .recorded .lookat-table) ∙ List·getD-map joined (w .scene .lookat-table) (word 9 r) ([], [])) i));
+        fog = fogShown (S .held .recorded .fog-table i) (word 8 r);
+        lookat = pick (eqb (word 7 r) 0) none (some ((ap (λ t. getD t (word 9 r) []) (S .held .recorded .lookat-table) ∙ List·getD-map joined (w .scene .lookat-table) (word 9 r) ([], [])) i));
       }
 
   pub corners-same : CornersSame k w
-  corners-same i h = corner-same (getD (k .rows .used) i noRow) (S .rows .nine i h) (S .rows .since2 i h) (S .rows .since3 i h) ∙ ap (seen w) (sym (row-read (S .rows) i h))
+  corners-same i h = corner-same (getD (k .rows .used) i noRow) (S .held .rows .nine i h) (S .held .rows .since2 i h) (S .held .rows .since3 i h) ∙ ap (seen w) (sym (row-read (S .held .rows) i h))
 
 pub met-corners : {k : Book} {w : World} → Met k w → CornersSame k w
 met-corners m = corners-same (m .same)

@@ -36,7 +36,8 @@ use Rattle.original.proofs.Alike.{entry-same}
 use Rattle.original.proofs.Readers.{tc-same}
 use Rattle.original.proofs.Loads.{Scaled, scale-entry}
 use Rattle.original.proofs.Seeds.{zeros-entry, half-entry, seed-scale, ratio-zero}
-use Rattle.original.proofs.Views.{entry-read, view-near}
+use Rattle.original.proofs.Nears.{space-near}
+use Rattle.original.proofs.Views.{entry-read}
 use Rattle.original.proofs.Settings.{map-replicate}
 
 -- ---- what is said of the parts that begin differently
@@ -136,16 +137,9 @@ unfolding start opened blank
 start-near l =
     record {
       count = record { matrices = refl; viewports = refl; scales = refl; lights = refl; lookats = refl; fogs = refl; rows = refl; indices = refl; runs = refl };
-      settings = record { microcode = refl; texture = refl; small = (omega arith, omega arith); fogmul = refl; fogoff = refl; geometry = (refl, refl) };
-      matrices = matrices0;
-      defined = tt;
-      view = (refl, refl);
-      lights = lights0;
-      lookat = lookat0;
-      slots = slots0;
-      scales = (refl, refl, refl);
-      rows = (refl, refl);
-      recorded = record { light-table = refl; lookat-table = refl; fog-table = refl; fog-pairs = tt; indices = refl; runs = refl };
+      modes = record { settings = record { microcode = refl; texture = refl; small = (omega arith, omega arith); fogmul = refl; fogoff = refl; geometry = (refl, refl) }; lights = lights0; lookat = lookat0 };
+      space = record { matrices = matrices0; defined = tt; view = (refl, refl) };
+      held = record { slots = slots0; scales = (refl, refl, refl); rows = (refl, refl); recorded = record { light-table = refl; lookat-table = refl; fog-table = refl; fog-pairs = tt; indices = refl; runs = refl } };
     }
 
 -- ---- the viewport set for the first time
@@ -226,9 +220,9 @@ unfolding plan execute
 viewport-begins {D} {G} {X} {R} {k} {w} N bytes at I =
     on-viewport _ (k .state) (k .viewports) bytes at
     (λ n e.
-    let q : matches eq (zeros 6) (viewportEntry bytes at) ≡ true = rw (N .view .0) at e in (refl, view-near N keep (rw (N .view .0, N .view .1) (begun-view bytes at I n true q))))
+    let q : matches eq (zeros 6) (viewportEntry bytes at) ≡ true = rw (N .space .view .0) at e in (refl, space-near N keep keep (N .space .matrices) (N .space .defined) (rw (N .space .view .0, N .space .view .1) (begun-view bytes at I n true q))))
     (λ n e _.
-    let q : matches eq (zeros 6) (viewportEntry bytes at) ≡ false = rw (N .view .0) at e in (refl, view-near N (grow (viewportEntry bytes at ∷ [])) (rw (N .view .0, N .view .1) (begun-view bytes at I n false q))))
+    let q : matches eq (zeros 6) (viewportEntry bytes at) ≡ false = rw (N .space .view .0) at e in (refl, space-near N keep (grow (viewportEntry bytes at ∷ [])) (N .space .matrices) (N .space .defined) (rw (N .space .view .0, N .space .view .1) (begun-view bytes at I n false q))))
 
 -- ---- the geometry mode set whole
 

@@ -11,19 +11,18 @@ use Rattle.areas.specs.Area.{matches}
 use Rattle.decide.specs.Append.{final}
 use Rattle.decide.specs.Family.{f3dex2}
 use Rattle.layout.specs.Layout.{tripleAt, viewportAt}
-use Rattle.stage.specs.Plan.{Edit, keep, grow, Row}
-use Rattle.stage.specs.With.{withViewport}
-use Rattle.stage.specs.Matrices.{edits2, viewportEntry}
+use Rattle.stage.specs.Plan.{keep, grow, Row}
+use Rattle.stage.specs.Matrices.{viewportEntry}
 use Rattle.sequence.specs.Sequence.{viewport, Book, plan}
-use Rattle.sequence.proofs.Turn.{edit, enter}
-use Rattle.sequence.proofs.Counted.{counted-then}
+use Rattle.sequence.proofs.Turn.{enter}
 use Rattle.sequence.proofs.Accepts.{Accepted, on-viewport}
 use Rattle.original.specs.Rsp.{Viewports, Texcoords, last-is, vp3, eq-entry, set-viewport}
 use Rattle.original.specs.Drawing.{Columns}
-use Rattle.original.specs.Walk.{World, execute, with-rsp, with-viewports}
+use Rattle.original.specs.Walk.{World, execute}
 use Rattle.original.specs.Relation.{over, Meets, joined, ViewSame, Near}
 use Rattle.original.specs.Domain.{Data, Agrees}
 use Rattle.original.proofs.Alike.{entry-same, last-final}
+use Rattle.original.proofs.Nears.{space-near}
 use Rattle.original.proofs.Readers.{triple-same}
 use Rattle.original.proofs.Stacks.{getD-map, map-snoc}
 
@@ -141,29 +140,10 @@ module _ {a b : ℕ} {v : List Float} {t : List (List Float)} {x : Viewports} (S
       snoc-triples (z ∷ l) y h p q zero k = h 0 (omega arith)
       snoc-triples (z ∷ l) y h p q (suc i) k = snoc-triples l y (λ j m. h (suc j) (omega arith)) p q i (omega arith)
 
--- another viewport on both sides, and what table 2 gets; all else stays
-pub view-near : {D : Bool → Bool → Type 0} {G : ℕ → ℕ → Type 0} {P P′ : List Float → List (List Float) → Viewports → Type 0} {X : ℕ → List (List Float) → Texcoords → Type 0} {R : List Row → Columns → Type 0} {k : Book} {w : World} → Near D G P X R k w
-    → {v : List Float} {x : Viewports} (e : Edit (List Float)) → P′ v (edit e (k .viewports .used)) x
-    → Near D G P′ X R (enter (withViewport (k .state) v) (edits2 e) k) (with-rsp w (with-viewports (w .rsp) x))
-view-near {k = k} N e view =
-    record {
-      count = counted-then k (k .state) (edits2 e) (N .count);
-      settings = N .settings;
-      matrices = N .matrices;
-      defined = N .defined;
-      view = view;
-      lights = N .lights;
-      lookat = N .lookat;
-      slots = N .slots;
-      scales = N .scales;
-      rows = N .rows;
-      recorded = N .recorded;
-    }
-
 pub viewport-agrees : {D : Bool → Bool → Type 0} {G : ℕ → ℕ → Type 0} {X : ℕ → List (List Float) → Texcoords → Type 0} {R : List Row → Columns → Type 0} {a b : ℕ} {k : Book} {w : World} → Near D G (ViewSame a b) X R k w → (bytes : List ℕ) (at : ℕ) → Data bytes
     → Accepted (λ vs t e. Agrees (Near D G (ViewSame a b) X R) vs (enter t e k) (execute (viewport bytes at) w)) (plan f3dex2 256 (viewport bytes at) k)
 unfolding plan execute
 viewport-agrees {D} {G} {X} {R} {a} {b} {k} {w} N bytes at I =
     on-viewport _ (k .state) (k .viewports) bytes at
-    (λ n e. (refl, view-near N keep (view-kept (N .view) bytes at I n e)))
-    (λ n e _. (refl, view-near N (grow (viewportEntry bytes at ∷ [])) (view-new (N .view) bytes at I n e)))
+    (λ n e. (refl, space-near N keep keep (N .space .matrices) (N .space .defined) (view-kept (N .space .view) bytes at I n e)))
+    (λ n e _. (refl, space-near N keep (grow (viewportEntry bytes at ∷ [])) (N .space .matrices) (N .space .defined) (view-new (N .space .view) bytes at I n e)))

@@ -8,6 +8,7 @@ use mathlib.Core.List.{List, [], _∷_, _++_, map}
 use mathlib.Core.Option.{Option, none, some}
 use lib.ListN.{length, getD}
 use lib.Dec.{eqb}
+use lib.IntN.{ℤ}
 use lib.Ieee.{Float}
 use Rattle.areas.specs.Area.{part, Wide}
 use Rattle.matrix.specs.Math.{zero, at, rows, laid}
@@ -203,20 +204,42 @@ RecordedSame k c =
       runs : k .runs .used ≡ map runNumbers (c .draw-runs);
     }
 
--- ---- the whole, over what is said of the parts that begin differently: whether the matrix is defined (D), geometry mode (G), viewport (P), scales (X), rows (R)
+-- ---- the whole, in groups by what changes together, over what is said of the parts that begin differently: whether the matrix is defined (D),
+-- geometry mode (G), viewport (P), scales (X), rows (R)
+
+-- settings, lights and lookat
+abbrev pub ModesSame : (ℕ → ℕ → Type 0) → State → World → Type 0
+ModesSame G s w =
+    record {
+      settings : SettingsSame G s w;
+      lights : LightsSame (s .lights) (w .rsp .lighting);
+      lookat : LookSame (s .lookat) (w .rsp .looking);
+    }
+
+-- matrices, whether the combined one is defined, viewport
+abbrev pub SpaceSame : (Bool → Bool → Type 0) → (List Float → List (List Float) → Viewports → Type 0) → Book → World → Type 0
+SpaceSame D P k w =
+    record {
+      matrices : MatrixSame (k .state .depth) (k .state .stack) (k .state .projection) (k .state .combined) (k .matrices .used) (w .rsp .matrices);
+      defined : D (k .state .defined) (w .rsp .matrices .mvp-valid);
+      view : P (k .state .viewport) (k .viewports .used) (w .rsp .viewports);
+    }
+
+-- slots, scales, rows, and the other tables
+abbrev pub HeldSame : (ℕ → List (List Float) → Texcoords → Type 0) → (List Row → Columns → Type 0) → Book → World → Type 0
+HeldSame X R k w =
+    record {
+      slots : SlotsSame (k .state .row) (k .state .loaded) (k .state .drawn) (k .state .coded) (k .state .code) (k .state .deep) (k .state .z) (w .rsp .slots);
+      scales : X (k .state .unit) (k .scales .used) (w .rsp .texcoords);
+      rows : R (k .rows .used) (w .scene .columns);
+      recorded : RecordedSame k (w .scene);
+    }
 
 pub record Near (D : Bool → Bool → Type 0) (G : ℕ → ℕ → Type 0) (P : List Float → List (List Float) → Viewports → Type 0) (X : ℕ → List (List Float) → Texcoords → Type 0) (R : List Row → Columns → Type 0) (k : Book) (w : World) : Type 0 where
   pub count : Counted k
-  pub settings : SettingsSame G (k .state) w
-  pub matrices : MatrixSame (k .state .depth) (k .state .stack) (k .state .projection) (k .state .combined) (k .matrices .used) (w .rsp .matrices)
-  pub defined : D (k .state .defined) (w .rsp .matrices .mvp-valid)
-  pub view : P (k .state .viewport) (k .viewports .used) (w .rsp .viewports)
-  pub lights : LightsSame (k .state .lights) (w .rsp .lighting)
-  pub lookat : LookSame (k .state .lookat) (w .rsp .looking)
-  pub slots : SlotsSame (k .state .row) (k .state .loaded) (k .state .drawn) (k .state .coded) (k .state .code) (k .state .deep) (k .state .z) (w .rsp .slots)
-  pub scales : X (k .state .unit) (k .scales .used) (w .rsp .texcoords)
-  pub rows : R (k .rows .used) (w .scene .columns)
-  pub recorded : RecordedSame k (w .scene)
+  pub modes : ModesSame G (k .state) w
+  pub space : SpaceSame D P k w
+  pub held : HeldSame X R k w
 
 -- THE TWO SIDES ARE THE SAME, from the offsets on
 abbrev pub Same : Offsets → Book → World → Type 0
@@ -224,8 +247,41 @@ Same o k w = Near _≡_ _≡_ (ViewSame (o .port2) (o .rust2)) (ScaleSame (o .po
 
 -- ---- corners as shown
 
+-- a corner as the original's scene has it: no number of a table is in it
+pub record RustCorner : Type 0 where
+  -- position x y z, s, t, four screen numbers
+  pub floats : List Float
+  -- modify flags
+  pub flags : ℕ
+  pub matrix : List Float
+  pub viewport : List Float
+  pub scale : List Float
+  -- colour word
+  pub colour : ℕ
+  pub lights : List (List Float)
+  -- texgen mode
+  pub texgen : ℕ
+  pub fog : Option (List ℤ)
+  pub lookat : Option (List Float)
+
+-- what of our corner is compared: what a corner has beyond these is ours alone and is left aside; today nothing is
+abbrev pub compared : Corner → RustCorner
+compared c =
+    record {
+      floats = c .floats;
+      flags = c .flags;
+      matrix = c .matrix;
+      viewport = c .viewport;
+      scale = c .scale;
+      colour = c .colour;
+      lights = c .lights;
+      texgen = c .texgen;
+      fog = c .fog;
+      lookat = c .lookat;
+    }
+
 -- what an element of each list shows: each number replaced by the entry's values
-unfoldable pub seen : World → Made → Corner
+unfoldable pub seen : World → Made → RustCorner
 seen w m =
     record {
       floats = m .pos ++ m .st ++ m .screen;
@@ -242,4 +298,4 @@ seen w m =
 
 -- every row in use shows the same corner on both sides
 abbrev pub CornersSame : Book → World → Type 0
-CornersSame k w = (i : ℕ) → i < length (k .rows .used) → shown (entriesOf k) (getD (k .rows .used) i noRow) ≡ seen w (made-at (w .scene .columns) i)
+CornersSame k w = (i : ℕ) → i < length (k .rows .used) → compared (shown (entriesOf k) (getD (k .rows .used) i noRow)) ≡ seen w (made-at (w .scene .columns) i)
