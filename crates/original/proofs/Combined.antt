@@ -8,6 +8,7 @@ use lib.ListN.{length, set}
 use lib.Dec.{eqb, ltb}
 use lib.Ieee.{Float}
 use Rattle.areas.specs.Area.{put}
+use Rattle.areas.specs.Widths.{matrixWidth}
 use Rattle.decide.specs.Family.{f3dex2, flag}
 use Rattle.decide.specs.Stack.{made, pushed, popped}
 use Rattle.layout.specs.Layout.{matrixAt}
@@ -140,7 +141,7 @@ module _ {D : Bool → Bool → Type 0} {G : ℕ → ℕ → Type 0} {P : List F
         refl (rw (has-projection flags, e, has-load flags, read))
 
     turns-model : flag (f3dex2 .projection) flags ≡ false
-        → Turns (withModel (k .state) (pushed (flag (f3dex2 .push) flags) (k .state .depth)) (put (k .state .stack) (16 * (pushed (flag (f3dex2 .push) flags) (k .state .depth) - 1)) (laid (made (flag (f3dex2 .load) flags) (matrixAt bytes at) (modelTop (k .state))))))
+        → Turns (withModel (k .state) (pushed (flag (f3dex2 .push) flags) (k .state .depth)) (put (k .state .stack) (matrixWidth * (pushed (flag (f3dex2 .push) flags) (k .state .depth) - 1)) (laid (made (flag (f3dex2 .load) flags) (matrixAt bytes at) (modelTop (k .state))))))
     unfolding execute matrix-fn
     turns-model e =
         recomputed _

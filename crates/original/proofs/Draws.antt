@@ -9,6 +9,7 @@ use lib.Bits.{bitAnd}
 use lib.Dec.{eqb}
 use lib.Ieee.{Float}
 use Rattle.areas.specs.Area.{matches}
+use Rattle.areas.specs.Widths.{settingsWide}
 use Rattle.decide.specs.Append.{final}
 use Rattle.decide.specs.Family.{f3dex2}
 use Rattle.triangle.specs.Run.{unclipped, settings, runOf, longer, sameRun}
@@ -26,7 +27,7 @@ use Rattle.original.specs.Drawing.{Columns, DrawRun, coalesces, grown, r
 use Rattle.original.specs.Walk.{World, execute}
 use Rattle.original.specs.Relation.{SlotsSame, runNumbers, Near}
 use Rattle.original.specs.Domain.{Agrees}
-use Rattle.original.proofs.Alike.{cull-both-same, cull-front-same, cull-some-same}
+use Rattle.original.proofs.Alike.{culling}
 use Rattle.original.proofs.Nears.{held-near}
 use Rattle.original.proofs.Stacks.{getD-map, map-snoc}
 
@@ -58,7 +59,7 @@ non-same F3dex2NoN = refl
 
 -- a run's six settings are those asked, on each side
 pub settings-same : (r : DrawRun) (kind non : Bool) (material mode fog prim : ℕ)
-    → matches eqb (take 6 (runNumbers r)) (material ∷ mode ∷ fog ∷ prim ∷ bit kind ∷ bit non ∷ []) ≡ coalesces r kind non material mode fog prim
+    → matches eqb (take settingsWide (runNumbers r)) (material ∷ mode ∷ fog ∷ prim ∷ bit kind ∷ bit non ∷ []) ≡ coalesces r kind non material mode fog prim
 unfolding matches
 settings-same r kind non material mode fog prim =
     rw (bits-same (r .cull) kind, bits-same (r .unclipped-depth) non)
@@ -91,7 +92,7 @@ runs-last same new (r ∷ s ∷ rs) h =
     pushed false = refl
 
 -- the two sides' runs after a draw with the settings q, n indices before it
-pub runs-same : (same : DrawRun → Bool) (new : DrawRun) (rs : List DrawRun) (q : List ℕ) (n : ℕ) → 0 < length q → ((r : DrawRun) → matches eqb (take 6 (runNumbers r)) q ≡ same r) → runNumbers new ≡ runOf q n 3
+pub runs-same : (same : DrawRun → Bool) (new : DrawRun) (rs : List DrawRun) (q : List ℕ) (n : ℕ) → 0 < length q → ((r : DrawRun) → matches eqb (take settingsWide (runNumbers r)) q ≡ same r) → runNumbers new ≡ runOf q n 3
     → edit (runEdit (map runNumbers rs) n q) (map runNumbers rs) ≡ map runNumbers (runs-then same new rs)
 unfolding runEdit sameRun runs-then pick matches
 runs-same same new [] [] n h e f = absurd (omega arith)
@@ -114,7 +115,7 @@ runs-same same new (r ∷ rs) q n h e f = go (same z) refl
     ends = ap (λ (m : ℕ). getD (map runNumbers (r ∷ rs)) m []) long ∙ getD-map runNumbers (r ∷ rs) (length (r ∷ rs) - 1) noRun [] (omega arith)
 
     go : (b : Bool) → same z ≡ b
-        → edit (pick (matches eqb (take 6 (final (map runNumbers (r ∷ rs)))) q) (patch (length (map runNumbers (r ∷ rs)) - 1) (longer (final (map runNumbers (r ∷ rs))))) (grow (runOf q n 3 ∷ []))) (map runNumbers (r ∷ rs))
+        → edit (pick (matches eqb (take settingsWide (final (map runNumbers (r ∷ rs)))) q) (patch (length (map runNumbers (r ∷ rs)) - 1) (longer (final (map runNumbers (r ∷ rs))))) (grow (runOf q n 3 ∷ []))) (map runNumbers (r ∷ rs))
         ≡ map runNumbers (runs-then same new (r ∷ rs))
     go true b = rw (ends, e z, b, long, runs-last same new (r ∷ rs) (omega arith), b) (sym (map-set runNumbers (r ∷ rs) (length (r ∷ rs) - 1) (grown z)))
     go false b = rw (ends, e z, b, runs-last same new (r ∷ rs) (omega arith), b, ← f) (sym (map-snoc runNumbers (r ∷ rs) new))
@@ -150,13 +151,13 @@ draw-agrees {D} {P} {X} {R} {k} {w} N a b c material mode colour prim =
     g = w .rsp .geom
 
     sides : eqb (bitAnd (w .rsp .geom) g-cull-both) g-cull-both ≡ both f3dex2 (k .state .geometry)
-    sides = cull-both-same (w .rsp .geom) ∙ ap (both f3dex2) (sym (N .modes .settings .geometry))
+    sides = culling (w .rsp .geom) .0 ∙ ap (both f3dex2) (sym (N .modes .settings .geometry))
 
     front : eqb (bitAnd (w .rsp .geom) g-cull-both) g-cull-front ≡ swaps f3dex2 (k .state .geometry)
-    front = cull-front-same (w .rsp .geom) ∙ ap (swaps f3dex2) (sym (N .modes .settings .geometry))
+    front = culling (w .rsp .geom) .1 ∙ ap (swaps f3dex2) (sym (N .modes .settings .geometry))
 
     some-side : not (eqb (bitAnd (w .rsp .geom) g-cull-both) 0) ≡ culls f3dex2 (k .state .geometry)
-    some-side = cull-some-same (w .rsp .geom) ∙ ap (culls f3dex2) (sym (N .modes .settings .geometry))
+    some-side = culling (w .rsp .geom) .2 ∙ ap (culls f3dex2) (sym (N .modes .settings .geometry))
 
     marked : SlotsSame (k .state .row) (k .state .loaded) (mark (k .state .drawn) (a ∷ b ∷ c ∷ [])) (k .state .coded) (k .state .code) (k .state .deep) (k .state .z)
         (record { cache-global-index = w .rsp .slots .cache-global-index; loaded = w .rsp .slots .loaded; clip-codes = w .rsp .slots .clip-codes; screen-z = w .rsp .slots .screen-z; used = set (set (set (w .rsp .slots .used) a true) b true) c true })

@@ -11,6 +11,7 @@ use lib.Dec.{eqb}
 use lib.Ieee.{Float, nan, eq}
 use borrow.Author.Tests.{lt-ltb}
 use Rattle.areas.specs.Area.{matches, Wide}
+use Rattle.areas.specs.Widths.{fogWidth}
 use Rattle.layout.specs.declared.records.Vertex.{Vertex}
 use Rattle.matrix.specs.Math.{at, rows, laid}
 use Rattle.decide.specs.Append.{final}
@@ -38,20 +39,13 @@ use Rattle.original.specs.Domain.{Data, Agrees}
 use Rattle.original.proofs.Alike.{has-lighting, has-fog, texgen-same, pair-same, last-final, three-is}
 use Rattle.original.proofs.Readers.{tc-same, tg-same}
 use Rattle.original.proofs.Small.{one-never}
-use Rattle.original.proofs.Views.{ends-same, last-number, last-since, meets-more, some-rust}
-use Rattle.original.proofs.Modifies.{fours-snoc, length-fours, snoc-pairs}
+use Rattle.original.proofs.Views.{ends-same, last-number, last-since, meets-more, some-rust, fours-at, fours-snoc, length-fours, snoc-pairs}
 use Rattle.original.proofs.RowsOf.{rows-count}
 use Rattle.original.proofs.Stacks.{top-same, laid-again}
 use Rattle.original.proofs.Settles.{cond-true, cond-false, prepared, lights-after, light-table-after, looking-after, look-table-after, fog-number, fog-after, fog-wide}
 use Rattle.original.proofs.Vertexes.{ShareSame, slots-filled, rows-filled}
 
 -- ---- scales
-
-fours-at : (cs gs : List (List Float)) (i : ℕ) → length cs ≡ length gs → i < length cs → getD (fours cs gs) i [] ≡ getD cs i [] ++ getD gs i []
-fours-at [] gs i h k = absurd (omega arith)
-fours-at (x ∷ cs) [] i h k = absurd (omega arith)
-fours-at (x ∷ cs) (y ∷ gs) zero h k = refl
-fours-at (x ∷ cs) (y ∷ gs) (suc i) h k = fours-at cs gs i (omega arith) (omega arith)
 
 -- the entry that both work out
 pub scale-entry : (sc tc : ℕ) → sc < 65536 → tc < 65536 → scaleEntry sc tc ≡ (tc-scale sc ∷ tc-scale tc ∷ []) ++ (tg-scale sc ∷ tg-scale tc ∷ [])
@@ -86,7 +80,7 @@ module _ {a b u : ℕ} {t : List (List Float)} {x : Texcoords} (S : ScaleSame a 
   last-four =
       ends-same (S .table)
       ∙ ap (λ (n : ℕ). getD (fours cs gs) (n - 1) []) (length-fours cs gs (S .beside))
-      ∙ fours-at cs gs (length cs - 1) (S .beside) (omega (arith, some-scale))
+      ∙ fours-at cs gs (S .beside) (length cs - 1)
 
   some-port : 0 < length t
   some-port =
@@ -307,7 +301,7 @@ module _ {X : ℕ → List (List Float) → Texcoords → Type 0} {R : List Row 
   fog-table-now =
       rw (N .modes .settings .fogmul, N .modes .settings .fogoff, N .held .recorded .fog-table, foggy-same) (fog-after (w .scene .fog-table) (N .held .recorded .fog-pairs) (w .fog-mul) (w .fog-offset) (has (w .rsp .geom) g-fog-geom))
 
-  fog-pairs-now : Wide 2 (after .scene .fog-table)
+  fog-pairs-now : Wide fogWidth (after .scene .fog-table)
   unfolding set-vertex
   fog-pairs-now = fog-wide (w .scene .fog-table) (N .held .recorded .fog-pairs) (w .fog-mul) (w .fog-offset) (has (w .rsp .geom) g-fog-geom)
 

@@ -30,16 +30,17 @@ use Rattle.stage.specs.Modify.{edits37, slotOf, tablesOf, scaleEdit, rowAfter, 
 use Rattle.sequence.specs.Sequence.{modify, Book, plan}
 use Rattle.sequence.proofs.Turn.{edit, enter}
 use Rattle.sequence.proofs.Accepts.{Accepted, on-modify}
+use Rattle.finished.specs.Shown.{noRow}
 use Rattle.original.specs.Math.{f0, f1}
 use Rattle.original.specs.Rsp.{Slots, Viewports, Texcoords, Rsp}
 use Rattle.original.specs.Drawing.{Columns, Scene, Made, push, made-at, unit-index, unit-then, modify-colour, modify-texture, modify-screen-at, map-some, copied-slots, with-screen-z, with-modified, with-columns, change-at, known, modify-vertex}
 use Rattle.original.specs.Walk.{World, with-both, execute}
-use Rattle.original.specs.Relation.{over, Offsets, Meets, fours, UnitSame, ScaleSame, isSome, orElse, SlotsSame, RowsSame, Near}
+use Rattle.original.specs.Relation.{over, Offsets, UnitSame, ScaleSame, isSome, orElse, SlotsSame, RowsSame, Near}
 use Rattle.original.specs.Domain.{Agrees}
 use Rattle.original.proofs.Readers.{halves-same, depth-same, wide-same, swap-same}
-use Rattle.original.proofs.Views.{meets-more}
+use Rattle.original.proofs.Views.{meets-more, next-number, fours-snoc, length-fours, snoc-pairs}
 use Rattle.original.proofs.Draws.{map-set}
-use Rattle.original.proofs.RowsOf.{noRow, made-of, set-made, row-pushed, row-set, row-read, rows-count}
+use Rattle.original.proofs.RowsOf.{made-of, set-made, row-pushed, row-set, row-read, rows-count}
 use Rattle.original.proofs.Nears.{held-near}
 
 -- ---- what a change does on the original's side
@@ -108,7 +109,7 @@ getD-set {A} l i j a d = go (eqb i j) refl
 -- point or since; the slot's depth; the unit entry, whose number matters to a change that needs it
 record Kind (c : Change) : Type 0 where
   row : (o : Offsets) (u : ℕ) (r : Row) → length (r .floats) ≡ floatWidth → length (r .words) ≡ wordWidth → made-of o (rowAfter c u r) ≡ altered c (over (o .port3) (o .rust3) (u - 1)) (made-of o r)
-  since2 : (a u : ℕ) (l : List ℕ) → length l ≡ wordWidth → a ≤ getD l viewportWord 0 → a ≤ getD (wordsAfter c u l) viewportWord 0
+  since2 : (a u : ℕ) (l : List ℕ) → a ≤ getD l viewportWord 0 → a ≤ getD (wordsAfter c u l) viewportWord 0
   since3 : (a u : ℕ) (l : List ℕ) → length l ≡ wordWidth → (needs c ≡ true → a ≤ u) → a ≤ getD l scaleWord 0 → a ≤ getD (wordsAfter c u l) scaleWord 0
   depth : (deep : Bool) (old : Float) → depthAfter c deep old ≡ depth-by (depth-of c) deep old
   new : (u : ℕ) → appends c u ≡ needs c && eqb u 0
@@ -117,41 +118,13 @@ record Kind (c : Change) : Type 0 where
 kind : (c : Change) → Kind c
 unfolding made-of floatsAfter wordsAfter depthAfter appends
 kind (Colour w) =
-    record {
-      row = λ o u r f h. simp (getD-set, length-set, f, h);
-      since2 = λ a u l h q. simp (getD-set, length-set, h) q;
-      since3 = λ a u l h p q. simp (getD-set, length-set, h) q;
-      depth = λ _ _. refl;
-      new = λ _. refl;
-      idle = λ _ _ _ _. refl;
-    }
+    record { row = λ o u r f h. simp (getD-set, length-set, h); since2 = λ a u l q. simp getD-set q; since3 = λ a u l h p q. simp getD-set q; depth = λ _ _. refl; new = λ _. refl; idle = λ _ _ _ _. refl }
 kind (Texture x y) =
-    record {
-      row = λ o u r f h. simp (getD-set, length-set, f, h);
-      since2 = λ a u l h q. simp (getD-set, length-set, h) q;
-      since3 = λ a u l h p q. simp (getD-set, length-set, h) (p refl);
-      depth = λ _ _. refl;
-      new = λ _. refl;
-      idle = λ u v e m. ap (λ (n : ℕ). altered (Texture x y) n m) (e refl);
-    }
+    record { row = λ o u r f h. simp (getD-set, length-set, f, h); since2 = λ a u l q. simp getD-set q; since3 = λ a u l h p q. simp (getD-set, h) (p refl); depth = λ _ _. refl; new = λ _. refl; idle = λ u v e m. ap (λ (n : ℕ). altered (Texture x y) n m) (e refl) }
 kind (Screen x y) =
-    record {
-      row = λ o u r f h. simp (getD-set, length-set, f, h);
-      since2 = λ a u l h q. simp (getD-set, length-set, h) q;
-      since3 = λ a u l h p q. simp (getD-set, length-set, h) q;
-      depth = λ _ _. refl;
-      new = λ _. refl;
-      idle = λ _ _ _ _. refl;
-    }
+    record { row = λ o u r f h. simp (getD-set, length-set, f, h); since2 = λ a u l q. simp getD-set q; since3 = λ a u l h p q. simp getD-set q; depth = λ _ _. refl; new = λ _. refl; idle = λ _ _ _ _. refl }
 kind (Depth z own) =
-    record {
-      row = λ o u r f h. simp (getD-set, length-set, f, h);
-      since2 = λ a u l h q. simp (getD-set, length-set, h) q;
-      since3 = λ a u l h p q. simp (getD-set, length-set, h) q;
-      depth = λ _ _. refl;
-      new = λ _. refl;
-      idle = λ _ _ _ _. refl;
-    }
+    record { row = λ o u r f h. simp (getD-set, f, h); since2 = λ a u l q. simp getD-set q; since3 = λ a u l h p q. simp getD-set q; depth = λ _ _. refl; new = λ _. refl; idle = λ _ _ _ _. refl }
 
 -- ---- what is asked for
 
@@ -243,30 +216,6 @@ module _ {r : List ℕ} {l d c : List Bool} {q : List ℕ} {e : List Bool} {f : 
 
 -- ---- the unit scale entry
 
-pub fours-snoc : (cs gs : List (List Float)) (c g : List Float) → length cs ≡ length gs → fours (cs ++ c ∷ []) (gs ++ g ∷ []) ≡ fours cs gs ++ (c ++ g) ∷ []
-fours-snoc [] [] c g h = refl
-fours-snoc [] (y ∷ gs) c g h = absurd (omega arith)
-fours-snoc (x ∷ cs) [] c g h = absurd (omega arith)
-fours-snoc (x ∷ cs) (y ∷ gs) c g h = ap (λ (t : List (List Float)). (x ++ y) ∷ t) (fours-snoc cs gs c g (omega arith))
-
-pub length-fours : (cs gs : List (List Float)) → length cs ≡ length gs → length (fours cs gs) ≡ length cs
-length-fours [] gs h = refl
-length-fours (x ∷ cs) [] h = absurd (omega arith)
-length-fours (x ∷ cs) (y ∷ gs) h = ap suc (length-fours cs gs (omega arith))
-
--- the number that the next entry gets, on each side
-next-number : {a b : ℕ} {port rust : List (List Float)} (M : Meets a b port rust) → (length rust ≡ over a b (length port)) × (a ≤ length port)
-next-number {a} {b} {port} {rust} M =
-    let p : length port ≡ length (M .before) + length (M .since) = ap length (M .port-is) ∙ length-append (M .before) (M .since) in
-    let r : length rust ≡ length (M .under) + length (M .since) = ap length (M .rust-is) ∙ length-append (M .under) (M .since) in
-    (omega (arith, M .port-size, M .rust-size), omega (arith, M .port-size))
-
-pub snoc-pairs : (l : List (List Float)) (y : List Float) → ((i : ℕ) → i < length l → length (getD l i []) ≡ 2) → length y ≡ 2 → (i : ℕ) → i < length (l ++ y ∷ []) → length (getD (l ++ y ∷ []) i []) ≡ 2
-snoc-pairs [] y h q zero k = q
-snoc-pairs [] y h q (suc i) k = absurd (omega arith)
-snoc-pairs (z ∷ l) y h q zero k = h 0 (omega arith)
-snoc-pairs (z ∷ l) y h q (suc i) k = snoc-pairs l y (λ j m. h (suc j) (omega arith)) q i (omega arith)
-
 module _ {a b u : ℕ} {t : List (List Float)} {x : Texcoords} (S : ScaleSame a b u t x) (n : ℕ) (h : length t ≡ n) where
   -- the number of the next entry
   next : (length (x .texcoord-table) ≡ over a b n) × (a ≤ n)
@@ -314,16 +263,16 @@ module _ {o : Offsets} {rs : List Row} {x : Columns} (S : RowsSame o rs x) (c : 
   rows-in-place i h =
       let r : Row = getD rs i noRow in
       let q : made-of o (rowAfter c u (getD rs i noRow)) ≡ altered c v (made-at x i) =
-      kind c .row o u (getD rs i noRow) (S .nine i h) (S .ten i h) ∙ kind c .idle _ v same (made-of o (getD rs i noRow)) ∙ ap (altered c v) (sym (row-read S i h)) in
+      kind c .row o u (getD rs i noRow) (S .floats i h) (S .words i h) ∙ kind c .idle _ v same (made-of o (getD rs i noRow)) ∙ ap (altered c v) (sym (row-read S i h)) in
       subst (λ (m : Made). RowsSame o (set rs i (rowAfter c u (getD rs i noRow))) (set-made x i m)) q
-      (row-set S i (rowAfter c u (getD rs i noRow)) (floats-kept c _ ∙ S .nine i h) (words-kept c _ _ ∙ S .ten i h) (kind c .since2 (o .port2) (u - 1) _ (S .ten i h) (S .since2 i h)) (kind c .since3 (o .port3) (u - 1) _ (S .ten i h) unit (S .since3 i h)))
+      (row-set S i (rowAfter c u (getD rs i noRow)) (floats-kept c _ ∙ S .floats i h) (words-kept c _ _ ∙ S .words i h) (kind c .since2 (o .port2) (u - 1) _ (S .since2 i h)) (kind c .since3 (o .port3) (u - 1) _ (S .words i h) unit (S .since3 i h)))
 
 -- a row copied to the end, and the copy changed
 rows-copied : {o : Offsets} {rs : List Row} {x : Columns} → RowsSame o rs x → (c : Change) (u v : ℕ) → (needs c ≡ true → over (o .port3) (o .rust3) (u - 1) ≡ v) → (needs c ≡ true → o .port3 ≤ u - 1) → (i : ℕ) → i < length rs
     → let y = push x (made-at x i) in
     RowsSame o (rs ++ rowAfter c u (getD rs i noRow) ∷ []) (set-made y (length rs) (altered c v (made-at y (length rs))))
 rows-copied {o} {rs} {x} S c u v same unit i h =
-    let T : RowsSame o (rs ++ getD rs i noRow ∷ []) (push x (made-at x i)) = rw (row-read S i h) (row-pushed S (getD rs i noRow) (S .nine i h) (S .ten i h) (S .since2 i h) (S .since3 i h)) in
+    let T : RowsSame o (rs ++ getD rs i noRow ∷ []) (push x (made-at x i)) = rw (row-read S i h) (row-pushed S (getD rs i noRow) (S .floats i h) (S .words i h) (S .since2 i h) (S .since3 i h)) in
     let e : getD (rs ++ getD rs i noRow ∷ []) (length rs) noRow ≡ getD rs i noRow = getD-append-seam rs (getD rs i noRow) [] noRow in
     let K = rows-in-place T c u v same unit (length rs) (omega (arith, length-append rs (getD rs i noRow ∷ []))) in
     rw (e, set-append-seam rs (getD rs i noRow) [] (rowAfter c u (getD rs i noRow))) at K

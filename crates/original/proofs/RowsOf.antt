@@ -4,32 +4,31 @@ use Prim.Native.Nat.{ℕ, zero, suc, _+_, _-_, _<_, _≤_}
 use native.Mathlib.Omega.{arith}
 use mathlib.Core.List.{List, [], _∷_, _++_}
 use lib.ListN.{length, getD, set, length-map}
+use Rattle.areas.specs.Widths.{floatWidth, wordWidth, flagsWord, matrixWord, viewportWord, scaleWord, colourWord, lightWord, lightsWord, texgenWord, fogWord, lookatWord, sFloat, tFloat, screenX, screenY, screenZ}
 use Rattle.stage.specs.Plan.{Row}
+use Rattle.finished.specs.Shown.{noRow}
 use Rattle.original.specs.Drawing.{Columns, Made, push, made-at}
 use Rattle.original.specs.Relation.{over, Offsets, word, float, RowsSame}
 use Rattle.original.proofs.Stacks.{getD-map, map-snoc}
 use Rattle.original.proofs.Draws.{map-set}
-
-abbrev pub noRow : Row
-noRow = record { floats = []; words = [] }
 
 -- what the original holds of a row
 unfoldable pub made-of : Offsets → Row → Made
 made-of o r =
     record {
       pos = float 0 r ∷ float 1 r ∷ float 2 r ∷ [];
-      flags = word 0 r;
-      screen = float 5 r ∷ float 6 r ∷ float 7 r ∷ float 8 r ∷ [];
-      mtx = word 1 r;
-      viewport = over (o .port2) (o .rust2) (word 2 r);
-      st = float 3 r ∷ float 4 r ∷ [];
-      texcoord = over (o .port3) (o .rust3) (word 3 r);
-      colour = word 4 r;
-      light = word 5 r;
-      count = word 6 r;
-      texgen = word 7 r;
-      fog = word 8 r;
-      lookat = word 9 r;
+      flags = word flagsWord r;
+      screen = float screenX r ∷ float screenY r ∷ float screenZ r ∷ float 8 r ∷ [];
+      mtx = word matrixWord r;
+      viewport = over (o .port2) (o .rust2) (word viewportWord r);
+      st = float sFloat r ∷ float tFloat r ∷ [];
+      texcoord = over (o .port3) (o .rust3) (word scaleWord r);
+      colour = word colourWord r;
+      light = word lightWord r;
+      count = word lightsWord r;
+      texgen = word texgenWord r;
+      fog = word fogWord r;
+      lookat = word lookatWord r;
     }
 
 -- an element replaced in every list
@@ -67,14 +66,14 @@ set-rows P (x ∷ rs) (suc n) r h p (suc i) k = set-rows P rs n r (λ j m. h (su
 
 module _ {o : Offsets} {rs : List Row} {c : Columns} (S : RowsSame o rs c) where
   -- a row more
-  pub row-pushed : (r : Row) → length (r .floats) ≡ 9 → length (r .words) ≡ 10 → o .port2 ≤ word 2 r → o .port3 ≤ word 3 r → RowsSame o (rs ++ r ∷ []) (push c (made-of o r))
+  pub row-pushed : (r : Row) → length (r .floats) ≡ floatWidth → length (r .words) ≡ wordWidth → o .port2 ≤ word viewportWord r → o .port3 ≤ word scaleWord r → RowsSame o (rs ++ r ∷ []) (push c (made-of o r))
   unfolding push made-of
   row-pushed r f w a b =
       record {
-        nine = snoc-rows (λ (x : Row). length (x .floats) ≡ 9) rs r (S .nine) f;
-        ten = snoc-rows (λ (x : Row). length (x .words) ≡ 10) rs r (S .ten) w;
-        since2 = snoc-rows (λ (x : Row). o .port2 ≤ word 2 x) rs r (S .since2) a;
-        since3 = snoc-rows (λ (x : Row). o .port3 ≤ word 3 x) rs r (S .since3) b;
+        floats = snoc-rows (λ (x : Row). length (x .floats) ≡ floatWidth) rs r (S .floats) f;
+        words = snoc-rows (λ (x : Row). length (x .words) ≡ wordWidth) rs r (S .words) w;
+        since2 = snoc-rows (λ (x : Row). o .port2 ≤ word viewportWord x) rs r (S .since2) a;
+        since3 = snoc-rows (λ (x : Row). o .port3 ≤ word scaleWord x) rs r (S .since3) b;
         raw-pos = rw (S .raw-pos) (sym (map-snoc _ rs r));
         modify-flags = rw (S .modify-flags) (sym (map-snoc _ rs r));
         modify-screen = rw (S .modify-screen) (sym (map-snoc _ rs r));
@@ -91,14 +90,14 @@ module _ {o : Offsets} {rs : List Row} {c : Columns} (S : RowsSame o rs c) where
       }
 
   -- a row replaced
-  pub row-set : (n : ℕ) (r : Row) → length (r .floats) ≡ 9 → length (r .words) ≡ 10 → o .port2 ≤ word 2 r → o .port3 ≤ word 3 r → RowsSame o (set rs n r) (set-made c n (made-of o r))
+  pub row-set : (n : ℕ) (r : Row) → length (r .floats) ≡ floatWidth → length (r .words) ≡ wordWidth → o .port2 ≤ word viewportWord r → o .port3 ≤ word scaleWord r → RowsSame o (set rs n r) (set-made c n (made-of o r))
   unfolding made-of
   row-set n r f w a b =
       record {
-        nine = set-rows (λ (x : Row). length (x .floats) ≡ 9) rs n r (S .nine) f;
-        ten = set-rows (λ (x : Row). length (x .words) ≡ 10) rs n r (S .ten) w;
-        since2 = set-rows (λ (x : Row). o .port2 ≤ word 2 x) rs n r (S .since2) a;
-        since3 = set-rows (λ (x : Row). o .port3 ≤ word 3 x) rs n r (S .since3) b;
+        floats = set-rows (λ (x : Row). length (x .floats) ≡ floatWidth) rs n r (S .floats) f;
+        words = set-rows (λ (x : Row). length (x .words) ≡ wordWidth) rs n r (S .words) w;
+        since2 = set-rows (λ (x : Row). o .port2 ≤ word viewportWord x) rs n r (S .since2) a;
+        since3 = set-rows (λ (x : Row). o .port3 ≤ word scaleWord x) rs n r (S .since3) b;
         raw-pos = rw (S .raw-pos) (sym (map-set _ rs n r));
         modify-flags = rw (S .modify-flags) (sym (map-set _ rs n r));
         modify-screen = rw (S .modify-screen) (sym (map-set _ rs n r));

@@ -19,7 +19,7 @@ use Rattle.sequence.proofs.Accepts.{Accepted, on-viewport}
 use Rattle.original.specs.Rsp.{Viewports, Texcoords, last-is, vp3, eq-entry, set-viewport}
 use Rattle.original.specs.Drawing.{Columns}
 use Rattle.original.specs.Walk.{World, execute}
-use Rattle.original.specs.Relation.{over, Meets, joined, ViewSame, Near}
+use Rattle.original.specs.Relation.{over, Meets, joined, fours, ViewSame, Near}
 use Rattle.original.specs.Domain.{Data, Agrees}
 use Rattle.original.proofs.Alike.{entry-same, last-final}
 use Rattle.original.proofs.Nears.{space-near}
@@ -70,6 +70,40 @@ module _ {a b : ℕ} {port rust : List (List Float)} (M : Meets a b port rust) w
   some-rust =
       let r : length rust ≡ length (M .under) + length (M .since) = ap length (M .rust-is) ∙ length-append (M .under) (M .since) in
       omega (arith, M .some-since)
+
+-- the number that the next entry gets, on each side
+pub next-number : {a b : ℕ} {port rust : List (List Float)} (M : Meets a b port rust) → (length rust ≡ over a b (length port)) × (a ≤ length port)
+next-number {a} {b} {port} {rust} M =
+    let p : length port ≡ length (M .before) + length (M .since) = ap length (M .port-is) ∙ length-append (M .before) (M .since) in
+    let r : length rust ≡ length (M .under) + length (M .since) = ap length (M .rust-is) ∙ length-append (M .under) (M .since) in
+    (omega (arith, M .port-size, M .rust-size), omega (arith, M .port-size))
+
+-- ---- the scales, of which the original keeps the pairs in two tables
+
+-- an entry of the coordinate pairs and of the texgen pairs
+pub fours-at : (cs gs : List (List Float)) → length cs ≡ length gs → (i : ℕ) → getD (fours cs gs) i [] ≡ getD cs i [] ++ getD gs i []
+fours-at [] [] e i = refl
+fours-at [] (g ∷ gs) e i = absurd (omega (arith, e))
+fours-at (c ∷ cs) [] e i = absurd (omega (arith, e))
+fours-at (c ∷ cs) (g ∷ gs) e zero = refl
+fours-at (c ∷ cs) (g ∷ gs) e (suc i) = fours-at cs gs (omega (arith, e)) i
+
+pub fours-snoc : (cs gs : List (List Float)) (c g : List Float) → length cs ≡ length gs → fours (cs ++ c ∷ []) (gs ++ g ∷ []) ≡ fours cs gs ++ (c ++ g) ∷ []
+fours-snoc [] [] c g h = refl
+fours-snoc [] (y ∷ gs) c g h = absurd (omega arith)
+fours-snoc (x ∷ cs) [] c g h = absurd (omega arith)
+fours-snoc (x ∷ cs) (y ∷ gs) c g h = ap (λ (t : List (List Float)). (x ++ y) ∷ t) (fours-snoc cs gs c g (omega arith))
+
+pub length-fours : (cs gs : List (List Float)) → length cs ≡ length gs → length (fours cs gs) ≡ length cs
+length-fours [] gs h = refl
+length-fours (x ∷ cs) [] h = absurd (omega arith)
+length-fours (x ∷ cs) (y ∷ gs) h = ap suc (length-fours cs gs (omega arith))
+
+pub snoc-pairs : (l : List (List Float)) (y : List Float) → ((i : ℕ) → i < length l → length (getD l i []) ≡ 2) → length y ≡ 2 → (i : ℕ) → i < length (l ++ y ∷ []) → length (getD (l ++ y ∷ []) i []) ≡ 2
+snoc-pairs [] y h q zero k = q
+snoc-pairs [] y h q (suc i) k = absurd (omega arith)
+snoc-pairs (z ∷ l) y h q zero k = h 0 (omega arith)
+snoc-pairs (z ∷ l) y h q (suc i) k = snoc-pairs l y (λ j m. h (suc j) (omega arith)) q i (omega arith)
 
 -- ---- the viewport
 

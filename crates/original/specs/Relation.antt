@@ -11,6 +11,7 @@ use lib.Dec.{eqb}
 use lib.IntN.{ℤ}
 use lib.Ieee.{Float}
 use Rattle.areas.specs.Area.{part, Wide}
+use Rattle.areas.specs.Widths.{matrixWidth, fogWidth, floatWidth, wordWidth, flagsWord, matrixWord, viewportWord, scaleWord, colourWord, lightWord, lightsWord, texgenWord, fogWord, lookatWord, sFloat, tFloat, screenX, screenY, screenZ}
 use Rattle.matrix.specs.Math.{zero, at, rows, laid}
 use Rattle.fold.specs.Direction.{three}
 use Rattle.triangle.specs.Slot.{bit}
@@ -65,7 +66,7 @@ pub record MatrixSame (d : ℕ) (st p c : List Float) (t : List (List Float)) (m
   pub high : d ≤ 32
   pub long : length st ≡ 512
   pub deep : length (m .model-stack) ≡ 32
-  pub stack : (i : ℕ) → i < d → rows st (16 * i) ≡ rows (laid (getD (m .model-stack) i [])) 0
+  pub stack : (i : ℕ) → i < d → rows st (matrixWidth * i) ≡ rows (laid (getD (m .model-stack) i [])) 0
   pub projection : p ≡ laid (m .viewproj)
   pub combined : c ≡ laid (m .mvp)
   pub table : t ≡ map laid (m .mvp-table)
@@ -152,24 +153,24 @@ float i r = at (r .floats) i
 
 -- each list of the scene holds its number of every row; the numbers of tables 2 and 3 by their offsets
 pub record RowsSame (o : Offsets) (rs : List Row) (c : Columns) : Type 0 where
-  pub nine : (i : ℕ) → i < length rs → length (getD rs i (record { floats = []; words = [] }) .floats) ≡ 9
-  pub ten : (i : ℕ) → i < length rs → length (getD rs i (record { floats = []; words = [] }) .words) ≡ 10
+  pub floats : (i : ℕ) → i < length rs → length (getD rs i noRow .floats) ≡ floatWidth
+  pub words : (i : ℕ) → i < length rs → length (getD rs i noRow .words) ≡ wordWidth
   -- a row's entries of tables 2 and 3 came at the point or since
-  pub since2 : (i : ℕ) → i < length rs → o .port2 ≤ word 2 (getD rs i (record { floats = []; words = [] }))
-  pub since3 : (i : ℕ) → i < length rs → o .port3 ≤ word 3 (getD rs i (record { floats = []; words = [] }))
+  pub since2 : (i : ℕ) → i < length rs → o .port2 ≤ word viewportWord (getD rs i noRow)
+  pub since3 : (i : ℕ) → i < length rs → o .port3 ≤ word scaleWord (getD rs i noRow)
   pub raw-pos : c .raw-pos ≡ map (λ (r : Row). float 0 r ∷ float 1 r ∷ float 2 r ∷ []) rs
-  pub raw-st : c .raw-st ≡ map (λ (r : Row). float 3 r ∷ float 4 r ∷ []) rs
-  pub modify-screen : c .modify-screen ≡ map (λ (r : Row). float 5 r ∷ float 6 r ∷ float 7 r ∷ float 8 r ∷ []) rs
-  pub modify-flags : c .modify-flags ≡ map (word 0) rs
-  pub mtx-index : c .mtx-index ≡ map (word 1) rs
-  pub viewport-index : c .viewport-index ≡ map (λ (r : Row). over (o .port2) (o .rust2) (word 2 r)) rs
-  pub texcoord-index : c .texcoord-index ≡ map (λ (r : Row). over (o .port3) (o .rust3) (word 3 r)) rs
-  pub cn : c .cn ≡ map (word 4) rs
-  pub light-index : c .light-index ≡ map (word 5) rs
-  pub light-count : c .light-count ≡ map (word 6) rs
-  pub texgen-mode : c .texgen-mode ≡ map (word 7) rs
-  pub fog : c .fog ≡ map (word 8) rs
-  pub lookat-index : c .lookat-index ≡ map (word 9) rs
+  pub raw-st : c .raw-st ≡ map (λ (r : Row). float sFloat r ∷ float tFloat r ∷ []) rs
+  pub modify-screen : c .modify-screen ≡ map (λ (r : Row). float screenX r ∷ float screenY r ∷ float screenZ r ∷ float 8 r ∷ []) rs
+  pub modify-flags : c .modify-flags ≡ map (word flagsWord) rs
+  pub mtx-index : c .mtx-index ≡ map (word matrixWord) rs
+  pub viewport-index : c .viewport-index ≡ map (λ (r : Row). over (o .port2) (o .rust2) (word viewportWord r)) rs
+  pub texcoord-index : c .texcoord-index ≡ map (λ (r : Row). over (o .port3) (o .rust3) (word scaleWord r)) rs
+  pub cn : c .cn ≡ map (word colourWord) rs
+  pub light-index : c .light-index ≡ map (word lightWord) rs
+  pub light-count : c .light-count ≡ map (word lightsWord) rs
+  pub texgen-mode : c .texgen-mode ≡ map (word texgenWord) rs
+  pub fog : c .fog ≡ map (word fogWord) rs
+  pub lookat-index : c .lookat-index ≡ map (word lookatWord) rs
 
 -- a run's eight numbers
 abbrev pub runNumbers : DrawRun → List ℕ
@@ -199,7 +200,7 @@ RecordedSame k c =
       light-table : k .lights .used ≡ map joined (c .lights-table);
       lookat-table : k .lookats .used ≡ map joined (c .lookat-table);
       fog-table : k .fogs .used ≡ c .fog-table;
-      fog-pairs : Wide 2 (c .fog-table);
+      fog-pairs : Wide fogWidth (c .fog-table);
       indices : k .indices .used ≡ map (λ (i : ℕ). i ∷ []) (c .indices);
       runs : k .runs .used ≡ map runNumbers (c .draw-runs);
     }
