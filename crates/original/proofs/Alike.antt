@@ -7,17 +7,17 @@ use native.Mathlib.Omega.{arith}
 use mathlib.Core.Bool.{Bool, true, false, not, _&&_, _||_, cond, Bool·beq}
 use mathlib.Core.List.{List, [], _∷_, _++_, map, map-append}
 use mathlib.Core.Option.{Option, none, some}
-use lib.ListN.{length, getD, take, length-take, length-map, List·getD-map}
+use lib.ListN.{length, getD}
 use lib.Bits.{bitAnd, bitXor, and-high, xor-shr, xor-mod, or-shifted-r}
 use lib.Pow.{pow-pos, pow-add, shr-shr}
 use lib.Dec.{eqb, ltb}
 use lib.IntN.{ℤ, pos}
 use lib.Ieee.{Float, nan, neg, lt, eq, ne}
 use lib.Ieee.Scale.{finite}
-use borrow.Author.Tests.{ltb-true, ltb-false, lt-ltb, eqb-true, eqb-false, eq-eqb, ne-eqb}
+use borrow.Author.Tests.{ltb-true, ltb-false, eqb-true, eqb-false, eq-eqb, ne-eqb}
 use Rattle.areas.specs.Area.{matches, Wide}
-use Rattle.areas.specs.Widths.{scaleWidth, fogWidth}
-use Rattle.matrix.specs.Math.{identity as identity′, times, rowTimes, colTimes, laid}
+use Rattle.areas.specs.Widths.{fogWidth}
+use Rattle.matrix.specs.Math.{times, rowTimes, colTimes, laid}
 use Rattle.matrix.specs.Clip.{bitOf, bitsOf, allFinite, codeOf, screenOf, depthOf}
 use Rattle.matrix.specs.declared.clip.ClipCode.{ClipCode}
 use Rattle.matrix.specs.declared.clip.ScreenZ.{ScreenZ}
@@ -28,10 +28,8 @@ use Rattle.fold.specs.Direction.{three, folded}
 use Rattle.fold.specs.Fog.{find}
 use Rattle.fold.specs.Lights.{lightEntry, directional}
 use Rattle.fold.specs.Lookat.{lookatEntry}
-use Rattle.fold.specs.Scales.{sameScale}
 use Rattle.stage.proofs.Judged.{and-assoc, and-true}
-use Rattle.sequence.proofs.Sized.{wide-at}
-use Rattle.original.specs.Math.{f0, ix, identity, mul4, mul-row-vec4, mul-col-vec3}
+use Rattle.original.specs.Math.{f0, ix, mul4, mul-row-vec4, mul-col-vec3}
 use Rattle.original.specs.Rsp.{has, g-mtx-push, g-mtx-load, g-mtx-projection, g-lighting, g-texture-gen, g-texture-gen-linear, g-fog-geom, g-cull-front, g-cull-both, eq-mat, eq-entry, last-is, popped-size}
 use Rattle.original.specs.Drawing.{eq2, unit-length, fold-lights, texgen-of, position, plane, clip-code, screen-of}
 
@@ -162,19 +160,10 @@ pub row-same : (v : List Float) (m : List (List Float)) → mul-row-vec4 v m ≡
 unfolding mul-row-vec4 rowTimes
 row-same v m = refl
 
--- a matrix times a column
-pub col-same : (m : List (List Float)) (v : List Float) → mul-col-vec3 m v ≡ colTimes m v
-unfolding mul-col-vec3 colTimes
-col-same m v = refl
-
 -- a direction folded
 pub folded-same : (m : List (List Float)) (v : List Float) → unit-length (mul-col-vec3 m v) ≡ folded m v
 unfolding unit-length mul-col-vec3 folded colTimes
 folded-same m v = refl
-
--- the identity
-pub identity-same : identity ≡ identity′
-identity-same = refl
 
 -- ---- comparisons
 
@@ -209,21 +198,6 @@ entry-same s t u v hs ht hu hv =
 pub pair-same : (a b : List Float) → length a ≡ 2 → length b ≡ 2 → eq2 a b ≡ matches eq a b
 unfolding matches
 pair-same a b ha hb = rw (two-is a nan ha, two-is b nan hb) (simp and-true)
-
--- the first pairs of two entries of four numbers, as table 3 has them
-pub scale-same : (a b : List Float) → length a ≡ scaleWidth → length b ≡ scaleWidth → eq2 (take 2 a) (take 2 b) ≡ matches eq (take 2 a) (take 2 b)
-scale-same a b ha hb = pair-same (take 2 a) (take 2 b) (rw (length-take 2 a, ha)) (rw (length-take 2 b, hb))
-
--- two numbers at least, by the first two
-pub first-pair : (a : List Float) → 2 ≤ length a → take 2 a ≡ ix a 0 ∷ ix a 1 ∷ []
-first-pair [] h = absurd (omega arith)
-first-pair (x ∷ []) h = absurd (omega arith)
-first-pair (x ∷ y ∷ l) h = refl
-
--- the same, of lists of two numbers at least that are not cut
-pub front-same : (a b : List Float) → 2 ≤ length a → 2 ≤ length b → eq2 a b ≡ matches eq (take 2 a) (take 2 b)
-unfolding matches
-front-same a b ha hb = rw (first-pair a ha, first-pair b hb, and-true)
 
 -- ---- the clip code and the screen z
 
@@ -328,11 +302,6 @@ position-same (e ∷ es) m o h = rw (two-is e (pos 0) (h .0), and-true, position
 
 -- ---- the last of a list
 
--- an empty list has no last
-pub last-none : {A : Type 0} (same : A → A → Bool) (x : A) → last-is same [] x ≡ false
-unfolding last-is
-last-none same x = refl
-
 -- the last of a list that is not empty
 pub last-final : {A : Type 0} (same : A → A → Bool) (l : List A) (x d : A) → 0 < length l → last-is same l x ≡ same (getD l (length l - 1) d) x
 unfolding last-is
@@ -344,16 +313,6 @@ last-final same (y ∷ z ∷ l) x d h =
     last-final same (z ∷ l) x d (omega arith)
     ∙ ap (λ (n : ℕ). same (getD (z ∷ l) n d) x) e
     ∙ sym (ap (λ (n : ℕ). same (getD (y ∷ z ∷ l) n d) x) f)
-
--- the last of the texture scales: the original keeps the pairs in two tables, the port in one
-pub scales-same : (es : List (List Float)) (e : List Float) → Wide scaleWidth es → length e ≡ scaleWidth → last-is eq2 (map (take 2) es) (take 2 e) ≡ sameScale es e
-unfolding sameScale
-scales-same [] e h k = last-none eq2 (take 2 e)
-scales-same (x ∷ es) e h k =
-    let n : 0 < suc (length es) = omega arith in
-    last-final eq2 (map (take 2) (x ∷ es)) (take 2 e) [] (omega arith)
-    ∙ rw (length-map es (take 2), List·getD-map (take 2) (x ∷ es) (suc (length es) - 1) [], lt-ltb 0 (suc (length es)) n)
-    (scale-same (getD (x ∷ es) (suc (length es) - 1) []) e (wide-at scaleWidth (x ∷ es) (suc (length es) - 1) h (omega arith)) k)
 
 -- ---- lights
 

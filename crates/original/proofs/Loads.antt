@@ -1,7 +1,7 @@
 -- Load of the two sides. Assumes nothing.
 use mathlib.Core.Path.{_≡_, refl, sym, ap, ap₂, _∙_, subst}
 use mathlib.Core.Logic.{_≢_, _⊎_, inl, ⊎-elim}
-use Prim.Native.Nat.{ℕ, zero, suc, _+_, _-_, _*_, _≤_, _<_}
+use Prim.Native.Nat.{ℕ, _+_, _-_, _*_, _≤_, _<_}
 use native.Mathlib.Omega.{arith}
 use mathlib.Core.Bool.{Bool, true, false, not, cond, false≢true}
 use mathlib.Core.List.{List, [], _∷_, _++_, map}
@@ -282,7 +282,7 @@ module _ {X : ℕ → List (List Float) → Texcoords → Type 0} {R : List Row 
   slots-now =
       rw (← row-count)
       (slots-filled o (sharedBy d (k .state)) x shared-same (rows (d .combined) 0) matrix-read bytes I count at-byte first (k .state .counts .rows) (settledState d (k .state)) (w .rsp .slots) fits
-      (record { row = N .held .slots .row; loaded = N .held .slots .loaded; drawn = N .held .slots .drawn; coded = N .held .slots .coded; code = N .held .slots .code; deep = N .held .slots .deep; z = N .held .slots .z }))
+      (N .held .slots))
 
   rows-now : RowsSame o (k .rows .used ++ map (vertexRow (sharedBy d (k .state))) vs) (after .scene .columns)
   unfolding set-vertex sharing-of

@@ -261,7 +261,6 @@ module _ {o : Offsets} {rs : List Row} {x : Columns} (S : RowsSame o rs x) (c : 
   -- a row changed where it stands
   rows-in-place : (i : ℕ) → i < length rs → RowsSame o (set rs i (rowAfter c u (getD rs i noRow))) (set-made x i (altered c v (made-at x i)))
   rows-in-place i h =
-      let r : Row = getD rs i noRow in
       let q : made-of o (rowAfter c u (getD rs i noRow)) ≡ altered c v (made-at x i) =
       kind c .row o u (getD rs i noRow) (S .floats i h) (S .words i h) ∙ kind c .idle _ v same (made-of o (getD rs i noRow)) ∙ ap (altered c v) (sym (row-read S i h)) in
       subst (λ (m : Made). RowsSame o (set rs i (rowAfter c u (getD rs i noRow))) (set-made x i m)) q

@@ -9,7 +9,7 @@ use mathlib.Core.Bool.{Bool, true, false, _&&_, cond}
 use mathlib.Core.List.{List, [], _∷_, _++_, map}
 use lib.ListN.{length, getD, set, length-append, length-set, length-map}
 use lib.Seq.{getD-set-same, getD-set-other}
-use lib.Dec.{ltb}
+use lib.Dec.{ltb, lit<}
 use lib.Ieee.{Float, nan, eq}
 use borrow.Author.Tests.{ltb-true}
 use Rattle.areas.specs.Area.{put, matches}
@@ -41,68 +41,20 @@ unfolding rows laid
 laid-again a = refl
 
 -- sixteen numbers that are the same one by one
-pub rows-by : (f g : List Float) (i j : ℕ) → ((c : ℕ) → c < 16 → at f (i + c) ≡ at g (j + c)) → rows f i ≡ rows g j
+pub rows-by : (f g : List Float) (i j : ℕ) → ((c : ℕ) → c < matrixWidth → at f (i + c) ≡ at g (j + c)) → rows f i ≡ rows g j
 unfolding rows
 rows-by f g i j h = λ t.
-    (first t ∷ low 1 lt1 t ∷ low 2 lt2 t ∷ low 3 lt3 t ∷ [])
-    ∷ (low 4 lt4 t ∷ high 4 1 lt5 t ∷ high 4 2 lt6 t ∷ high 4 3 lt7 t ∷ [])
-    ∷ (low 8 lt8 t ∷ high 8 1 lt9 t ∷ high 8 2 lt10 t ∷ high 8 3 lt11 t ∷ [])
-    ∷ (low 12 lt12 t ∷ high 12 1 lt13 t ∷ high 12 2 lt14 t ∷ high 12 3 lt15 t ∷ [])
+    (first t ∷ h 1 (lit< tt) t ∷ h 2 (lit< tt) t ∷ h 3 (lit< tt) t ∷ [])
+    ∷ (h 4 (lit< tt) t ∷ high 4 1 (lit< tt) t ∷ high 4 2 (lit< tt) t ∷ high 4 3 (lit< tt) t ∷ [])
+    ∷ (h 8 (lit< tt) t ∷ high 8 1 (lit< tt) t ∷ high 8 2 (lit< tt) t ∷ high 8 3 (lit< tt) t ∷ [])
+    ∷ (h 12 (lit< tt) t ∷ high 12 1 (lit< tt) t ∷ high 12 2 (lit< tt) t ∷ high 12 3 (lit< tt) t ∷ [])
     ∷ []
   where
-    low : (c : ℕ) → c < 16 → at f (i + c) ≡ at g (j + c)
-    low c l = h c l
-
     first : at f i ≡ at g j
-    first = ap (at f) (sym (add-zero i)) ∙ h 0 (omega arith) ∙ ap (at g) (add-zero j)
+    first = ap (at f) (sym (add-zero i)) ∙ h 0 (lit< tt) ∙ ap (at g) (add-zero j)
 
-    high : (a b : ℕ) → a + b < 16 → at f (i + a + b) ≡ at g (j + a + b)
+    high : (a b : ℕ) → a + b < matrixWidth → at f (i + a + b) ≡ at g (j + a + b)
     high a b l = ap (at f) (add-assoc i a b) ∙ h (a + b) l ∙ ap (at g) (sym (add-assoc j a b))
-
-    lt1 : 1 < 16
-    lt1 = omega arith
-
-    lt2 : 2 < 16
-    lt2 = omega arith
-
-    lt3 : 3 < 16
-    lt3 = omega arith
-
-    lt4 : 4 < 16
-    lt4 = omega arith
-
-    lt5 : 4 + 1 < 16
-    lt5 = omega arith
-
-    lt6 : 4 + 2 < 16
-    lt6 = omega arith
-
-    lt7 : 4 + 3 < 16
-    lt7 = omega arith
-
-    lt8 : 8 < 16
-    lt8 = omega arith
-
-    lt9 : 8 + 1 < 16
-    lt9 = omega arith
-
-    lt10 : 8 + 2 < 16
-    lt10 = omega arith
-
-    lt11 : 8 + 3 < 16
-    lt11 = omega arith
-
-    lt12 : 12 < 16
-    lt12 = omega arith
-
-    lt13 : 12 + 1 < 16
-    lt13 = omega arith
-
-    lt14 : 12 + 2 < 16
-    lt14 = omega arith
-
-    lt15 : 12 + 3 < 16
-    lt15 = omega arith
 
 -- a matrix put into the stack is read there, and no other changes
 rows-put : (l v : List Float) (k : ℕ) → length v ≡ matrixWidth → matrixWidth * k + matrixWidth ≤ length l → rows (put l (matrixWidth * k) v) (matrixWidth * k) ≡ rows v 0
