@@ -15,9 +15,9 @@ use Rattle.sequence.specs.Sequence.{Book}
 use Rattle.sequence.proofs.Spelled.{spells}
 use Rattle.finished.specs.Shown.{entriesOf, fogShown, noRow, shownBy, shown}
 use Rattle.original.specs.Walk.{World}
-use Rattle.original.specs.Relation.{over, Offsets, Meets, joined, word, Same, compared, seen, CornersSame}
+use Rattle.original.specs.Relation.{over, Offsets, Meets, joined, word, made-of, Since, Same, compared, seen, CornersSame}
 use Rattle.original.specs.Domain.{Met}
-use Rattle.original.proofs.RowsOf.{made-of, row-read}
+use Rattle.original.proofs.RowsOf.{row-read}
 use Rattle.original.proofs.Views.{fours-at}
 
 -- a number at or after the point names the same entry on both sides
@@ -37,15 +37,15 @@ map-part {A} {B} g (x ∷ l) zero (suc n) = ap (λ (t : List B). g x ∷ t) (map
 map-part g (x ∷ l) (suc i) n = map-part g l i n
 
 module _ {o : Offsets} {k : Book} {w : World} (S : Same o k w) where
-  corner-same : (r : Row) → length (r .floats) ≡ floatWidth → o .port2 ≤ word viewportWord r → o .port3 ≤ word scaleWord r → compared (shown (entriesOf k) r) ≡ seen w (made-of o r)
+  corner-same : (r : Row) → Since o r → compared (shown (entriesOf k) r) ≡ seen w (made-of o r)
   unfolding shown shownBy seen made-of
-  corner-same r n a b = λ i.
+  corner-same r h = λ i.
       record {
-        floats = spells nan (r .floats) floatWidth n i;
+        floats = spells nan (r .floats) floatWidth (h .floats) i;
         flags = word flagsWord r;
         matrix = getD (S .space .matrices .table i) (word matrixWord r) [];
-        viewport = (meets-at (S .space .view .table) (word viewportWord r) a ∙ List·getD-map joined (w .rsp .viewports .viewport-table) _ ([], [])) i;
-        scale = (meets-at (S .held .scales .table) (word scaleWord r) b ∙ fours-at (w .rsp .texcoords .texcoord-table) (w .rsp .texcoords .texgen-scale-table) (S .held .scales .beside) (over (o .port3) (o .rust3) (word scaleWord r))) i;
+        viewport = (meets-at (S .space .view .table) (word viewportWord r) (h .viewport) ∙ List·getD-map joined (w .rsp .viewports .viewport-table) _ ([], [])) i;
+        scale = (meets-at (S .held .scales .table) (word scaleWord r) (h .scale) ∙ fours-at (w .rsp .texcoords .texcoord-table) (w .rsp .texcoords .texgen-scale-table) (S .held .scales .beside) (over (o .port3) (o .rust3) (word scaleWord r))) i;
         colour = word colourWord r;
         lights = (ap (λ t. part t (word lightWord r) (word lightsWord r)) (S .held .recorded .light-table) ∙ map-part joined (w .scene .lights-table) (word lightWord r) (word lightsWord r)) i;
         texgen = word texgenWord r;
@@ -54,7 +54,7 @@ module _ {o : Offsets} {k : Book} {w : World} (S : Same o k w) where
       }
 
   pub corners-same : CornersSame k w
-  corners-same i h = corner-same (getD (k .rows .used) i noRow) (S .held .rows .floats i h) (S .held .rows .since2 i h) (S .held .rows .since3 i h) ∙ ap (seen w) (sym (row-read (S .held .rows) i h))
+  corners-same i h = corner-same (getD (k .rows .used) i noRow) (S .held .rows .each i h) ∙ ap (seen w) (sym (row-read (S .held .rows) i h))
 
 pub met-corners : {k : Book} {w : World} → Met k w → CornersSame k w
 met-corners m = corners-same (m .same)

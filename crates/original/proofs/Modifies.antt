@@ -13,7 +13,7 @@ use lib.Dec.{eqb, leb, ltb}
 use lib.IntN.{pos}
 use lib.Ieee.{Float, nan, binary32, binary64}
 use borrow.Author.Tests.{ltb-true, ltb-false, lt-leb, eqb-true, eqb-false, ne-eqb}
-use Rattle.areas.specs.Widths.{floatWidth, wordWidth, viewportWord, scaleWord}
+use Rattle.areas.specs.Widths.{viewportWord, scaleWord}
 use Rattle.numbers.specs.Ratio.{ofRatio}
 use Rattle.matrix.specs.Math as math
 use Rattle.decide.specs.Family.{f3dex2}
@@ -35,12 +35,12 @@ use Rattle.original.specs.Math.{f0, f1}
 use Rattle.original.specs.Rsp.{Slots, Viewports, Texcoords, Rsp}
 use Rattle.original.specs.Drawing.{Columns, Scene, Made, push, made-at, unit-index, unit-then, modify-colour, modify-texture, modify-screen-at, map-some, copied-slots, with-screen-z, with-modified, with-columns, change-at, known, modify-vertex}
 use Rattle.original.specs.Walk.{World, with-both, execute}
-use Rattle.original.specs.Relation.{over, Offsets, UnitSame, ScaleSame, isSome, orElse, SlotsSame, RowsSame, Near}
+use Rattle.original.specs.Relation.{word, over, Offsets, UnitSame, ScaleSame, isSome, orElse, SlotsSame, made-of, Since, RowsSame, Near}
 use Rattle.original.specs.Domain.{Agrees}
 use Rattle.original.proofs.Readers.{halves-same, depth-same, wide-same, swap-same}
 use Rattle.original.proofs.Views.{meets-more, next-number, fours-snoc, length-fours, snoc-pairs}
 use Rattle.original.proofs.Draws.{map-set}
-use Rattle.original.proofs.RowsOf.{made-of, set-made, row-pushed, row-set, row-read, rows-count}
+use Rattle.original.proofs.RowsOf.{set-made, row-pushed, row-set, row-read, rows-count}
 use Rattle.original.proofs.Nears.{held-near}
 
 -- ---- what a change does on the original's side
@@ -105,12 +105,15 @@ getD-set {A} l i j a d = go (eqb i j) refl
     go true e = rw (← (eqb-true i j e)) (inside (ltb i (length l)) refl)
     go false e = getD-set-other l i j a d (λ q. eqb-false i j e (sym q))
 
+-- a row stays whole
+whole : (c : Change) (o : Offsets) (u : ℕ) (r : Row) → Since o r → o .port2 ≤ word viewportWord (rowAfter c u r) → o .port3 ≤ word scaleWord (rowAfter c u r) → Since o (rowAfter c u r)
+whole c o u r h v s = record { floats = floats-kept c (r .floats) ∙ h .floats; words = words-kept c (u - 1) (r .words) ∙ h .words; viewport = v; scale = s }
+
 -- all that is shown of a kind of change by itself: a row of ours, changed, is the original's row altered, and names entries that came at the
 -- point or since; the slot's depth; the unit entry, whose number matters to a change that needs it
 record Kind (c : Change) : Type 0 where
-  row : (o : Offsets) (u : ℕ) (r : Row) → length (r .floats) ≡ floatWidth → length (r .words) ≡ wordWidth → made-of o (rowAfter c u r) ≡ altered c (over (o .port3) (o .rust3) (u - 1)) (made-of o r)
-  since2 : (a u : ℕ) (l : List ℕ) → a ≤ getD l viewportWord 0 → a ≤ getD (wordsAfter c u l) viewportWord 0
-  since3 : (a u : ℕ) (l : List ℕ) → length l ≡ wordWidth → (needs c ≡ true → a ≤ u) → a ≤ getD l scaleWord 0 → a ≤ getD (wordsAfter c u l) scaleWord 0
+  row : (o : Offsets) (u : ℕ) (r : Row) → Since o r → made-of o (rowAfter c u r) ≡ altered c (over (o .port3) (o .rust3) (u - 1)) (made-of o r)
+  since : (o : Offsets) (u : ℕ) (r : Row) → (needs c ≡ true → o .port3 ≤ u - 1) → Since o r → Since o (rowAfter c u r)
   depth : (deep : Bool) (old : Float) → depthAfter c deep old ≡ depth-by (depth-of c) deep old
   new : (u : ℕ) → appends c u ≡ needs c && eqb u 0
   idle : (u v : ℕ) → (needs c ≡ true → u ≡ v) → (m : Made) → altered c u m ≡ altered c v m
@@ -118,13 +121,13 @@ record Kind (c : Change) : Type 0 where
 kind : (c : Change) → Kind c
 unfolding made-of floatsAfter wordsAfter depthAfter appends
 kind (Colour w) =
-    record { row = λ o u r f h. simp (getD-set, length-set, h); since2 = λ a u l q. simp getD-set q; since3 = λ a u l h p q. simp getD-set q; depth = λ _ _. refl; new = λ _. refl; idle = λ _ _ _ _. refl }
+    record { row = λ o u r h. simp (getD-set, length-set, h .words); since = λ o u r p h. whole (Colour w) o u r h (simp getD-set (h .viewport)) (simp getD-set (h .scale)); depth = λ _ _. refl; new = λ _. refl; idle = λ _ _ _ _. refl }
 kind (Texture x y) =
-    record { row = λ o u r f h. simp (getD-set, length-set, f, h); since2 = λ a u l q. simp getD-set q; since3 = λ a u l h p q. simp (getD-set, h) (p refl); depth = λ _ _. refl; new = λ _. refl; idle = λ u v e m. ap (λ (n : ℕ). altered (Texture x y) n m) (e refl) }
+    record { row = λ o u r h. simp (getD-set, length-set, h .floats, h .words); since = λ o u r p h. whole (Texture x y) o u r h (simp getD-set (h .viewport)) (simp (getD-set, h .words) (p refl)); depth = λ _ _. refl; new = λ _. refl; idle = λ u v e m. ap (λ (n : ℕ). altered (Texture x y) n m) (e refl) }
 kind (Screen x y) =
-    record { row = λ o u r f h. simp (getD-set, length-set, f, h); since2 = λ a u l q. simp getD-set q; since3 = λ a u l h p q. simp getD-set q; depth = λ _ _. refl; new = λ _. refl; idle = λ _ _ _ _. refl }
+    record { row = λ o u r h. simp (getD-set, length-set, h .floats, h .words); since = λ o u r p h. whole (Screen x y) o u r h (simp getD-set (h .viewport)) (simp getD-set (h .scale)); depth = λ _ _. refl; new = λ _. refl; idle = λ _ _ _ _. refl }
 kind (Depth z own) =
-    record { row = λ o u r f h. simp (getD-set, f, h); since2 = λ a u l q. simp getD-set q; since3 = λ a u l h p q. simp getD-set q; depth = λ _ _. refl; new = λ _. refl; idle = λ _ _ _ _. refl }
+    record { row = λ o u r h. simp (getD-set, h .floats, h .words); since = λ o u r p h. whole (Depth z own) o u r h (simp getD-set (h .viewport)) (simp getD-set (h .scale)); depth = λ _ _. refl; new = λ _. refl; idle = λ _ _ _ _. refl }
 
 -- ---- what is asked for
 
@@ -262,16 +265,15 @@ module _ {o : Offsets} {rs : List Row} {x : Columns} (S : RowsSame o rs x) (c : 
   rows-in-place : (i : ℕ) → i < length rs → RowsSame o (set rs i (rowAfter c u (getD rs i noRow))) (set-made x i (altered c v (made-at x i)))
   rows-in-place i h =
       let q : made-of o (rowAfter c u (getD rs i noRow)) ≡ altered c v (made-at x i) =
-      kind c .row o u (getD rs i noRow) (S .floats i h) (S .words i h) ∙ kind c .idle _ v same (made-of o (getD rs i noRow)) ∙ ap (altered c v) (sym (row-read S i h)) in
-      subst (λ (m : Made). RowsSame o (set rs i (rowAfter c u (getD rs i noRow))) (set-made x i m)) q
-      (row-set S i (rowAfter c u (getD rs i noRow)) (floats-kept c _ ∙ S .floats i h) (words-kept c _ _ ∙ S .words i h) (kind c .since2 (o .port2) (u - 1) _ (S .since2 i h)) (kind c .since3 (o .port3) (u - 1) _ (S .words i h) unit (S .since3 i h)))
+      kind c .row o u (getD rs i noRow) (S .each i h) ∙ kind c .idle _ v same (made-of o (getD rs i noRow)) ∙ ap (altered c v) (sym (row-read S i h)) in
+      subst (λ (m : Made). RowsSame o (set rs i (rowAfter c u (getD rs i noRow))) (set-made x i m)) q (row-set S i (rowAfter c u (getD rs i noRow)) (kind c .since o u (getD rs i noRow) unit (S .each i h)))
 
 -- a row copied to the end, and the copy changed
 rows-copied : {o : Offsets} {rs : List Row} {x : Columns} → RowsSame o rs x → (c : Change) (u v : ℕ) → (needs c ≡ true → over (o .port3) (o .rust3) (u - 1) ≡ v) → (needs c ≡ true → o .port3 ≤ u - 1) → (i : ℕ) → i < length rs
     → let y = push x (made-at x i) in
     RowsSame o (rs ++ rowAfter c u (getD rs i noRow) ∷ []) (set-made y (length rs) (altered c v (made-at y (length rs))))
 rows-copied {o} {rs} {x} S c u v same unit i h =
-    let T : RowsSame o (rs ++ getD rs i noRow ∷ []) (push x (made-at x i)) = rw (row-read S i h) (row-pushed S (getD rs i noRow) (S .floats i h) (S .words i h) (S .since2 i h) (S .since3 i h)) in
+    let T : RowsSame o (rs ++ getD rs i noRow ∷ []) (push x (made-at x i)) = rw (row-read S i h) (row-pushed S (getD rs i noRow) (S .each i h)) in
     let e : getD (rs ++ getD rs i noRow ∷ []) (length rs) noRow ≡ getD rs i noRow = getD-append-seam rs (getD rs i noRow) [] noRow in
     let K = rows-in-place T c u v same unit (length rs) (omega (arith, length-append rs (getD rs i noRow ∷ []))) in
     rw (e, set-append-seam rs (getD rs i noRow) [] (rowAfter c u (getD rs i noRow))) at K

@@ -292,24 +292,4 @@ scales-begun s hs ht = go (eq2 (f0 ∷ f0 ∷ []) (tc-scale (s .sc) ∷ tc-scale
 
 -- no rows yet
 pub rows-begun : (o : Offsets) (rs : List Row) (c : Columns) → Rows0 rs c → RowsSame o rs c
-rows-begun o rs c h =
-    rw (h .0, h .1)
-    (record {
-      floats = λ i q. absurd (omega arith);
-      words = λ i q. absurd (omega arith);
-      since2 = λ i q. absurd (omega arith);
-      since3 = λ i q. absurd (omega arith);
-      raw-pos = refl;
-      raw-st = refl;
-      modify-screen = refl;
-      modify-flags = refl;
-      mtx-index = refl;
-      viewport-index = refl;
-      texcoord-index = refl;
-      cn = refl;
-      light-index = refl;
-      light-count = refl;
-      texgen-mode = refl;
-      fog = refl;
-      lookat-index = refl;
-    })
+rows-begun o rs c h = rw (h .0, h .1) (record { each = λ i q. absurd (omega arith); columns = refl })

@@ -151,26 +151,55 @@ word i r = getD (r .words) i 0
 abbrev pub float : ℕ → Row → Float
 float i r = at (r .floats) i
 
--- each list of the scene holds its number of every row; the numbers of tables 2 and 3 by their offsets
+-- what the original holds of a row; the numbers of tables 2 and 3 by their offsets
+unfoldable pub made-of : Offsets → Row → Made
+made-of o r =
+    record {
+      pos = float 0 r ∷ float 1 r ∷ float 2 r ∷ [];
+      flags = word flagsWord r;
+      screen = float screenX r ∷ float screenY r ∷ float screenZ r ∷ float 8 r ∷ [];
+      mtx = word matrixWord r;
+      viewport = over (o .port2) (o .rust2) (word viewportWord r);
+      st = float sFloat r ∷ float tFloat r ∷ [];
+      texcoord = over (o .port3) (o .rust3) (word scaleWord r);
+      colour = word colourWord r;
+      light = word lightWord r;
+      count = word lightsWord r;
+      texgen = word texgenWord r;
+      fog = word fogWord r;
+      lookat = word lookatWord r;
+    }
+
+-- its lists, of all rows
+abbrev pub columns-of : Offsets → List Row → Columns
+columns-of o rs =
+    record {
+      raw-pos = map (λ (r : Row). made-of o r .pos) rs;
+      modify-flags = map (λ (r : Row). made-of o r .flags) rs;
+      modify-screen = map (λ (r : Row). made-of o r .screen) rs;
+      mtx-index = map (λ (r : Row). made-of o r .mtx) rs;
+      viewport-index = map (λ (r : Row). made-of o r .viewport) rs;
+      raw-st = map (λ (r : Row). made-of o r .st) rs;
+      texcoord-index = map (λ (r : Row). made-of o r .texcoord) rs;
+      cn = map (λ (r : Row). made-of o r .colour) rs;
+      light-index = map (λ (r : Row). made-of o r .light) rs;
+      light-count = map (λ (r : Row). made-of o r .count) rs;
+      texgen-mode = map (λ (r : Row). made-of o r .texgen) rs;
+      fog = map (λ (r : Row). made-of o r .fog) rs;
+      lookat-index = map (λ (r : Row). made-of o r .lookat) rs;
+    }
+
+-- a row whole, whose entries of tables 2 and 3 came at the point or since
+pub record Since (o : Offsets) (r : Row) : Type 0 where
+  pub floats : length (r .floats) ≡ floatWidth
+  pub words : length (r .words) ≡ wordWidth
+  pub viewport : o .port2 ≤ word viewportWord r
+  pub scale : o .port3 ≤ word scaleWord r
+
+-- every row is such a one, and the lists of the scene hold their numbers of all rows
 pub record RowsSame (o : Offsets) (rs : List Row) (c : Columns) : Type 0 where
-  pub floats : (i : ℕ) → i < length rs → length (getD rs i noRow .floats) ≡ floatWidth
-  pub words : (i : ℕ) → i < length rs → length (getD rs i noRow .words) ≡ wordWidth
-  -- a row's entries of tables 2 and 3 came at the point or since
-  pub since2 : (i : ℕ) → i < length rs → o .port2 ≤ word viewportWord (getD rs i noRow)
-  pub since3 : (i : ℕ) → i < length rs → o .port3 ≤ word scaleWord (getD rs i noRow)
-  pub raw-pos : c .raw-pos ≡ map (λ (r : Row). float 0 r ∷ float 1 r ∷ float 2 r ∷ []) rs
-  pub raw-st : c .raw-st ≡ map (λ (r : Row). float sFloat r ∷ float tFloat r ∷ []) rs
-  pub modify-screen : c .modify-screen ≡ map (λ (r : Row). float screenX r ∷ float screenY r ∷ float screenZ r ∷ float 8 r ∷ []) rs
-  pub modify-flags : c .modify-flags ≡ map (word flagsWord) rs
-  pub mtx-index : c .mtx-index ≡ map (word matrixWord) rs
-  pub viewport-index : c .viewport-index ≡ map (λ (r : Row). over (o .port2) (o .rust2) (word viewportWord r)) rs
-  pub texcoord-index : c .texcoord-index ≡ map (λ (r : Row). over (o .port3) (o .rust3) (word scaleWord r)) rs
-  pub cn : c .cn ≡ map (word colourWord) rs
-  pub light-index : c .light-index ≡ map (word lightWord) rs
-  pub light-count : c .light-count ≡ map (word lightsWord) rs
-  pub texgen-mode : c .texgen-mode ≡ map (word texgenWord) rs
-  pub fog : c .fog ≡ map (word fogWord) rs
-  pub lookat-index : c .lookat-index ≡ map (word lookatWord) rs
+  pub each : (i : ℕ) → i < length rs → Since o (getD rs i noRow)
+  pub columns : c ≡ columns-of o rs
 
 -- a run's eight numbers
 abbrev pub runNumbers : DrawRun → List ℕ
