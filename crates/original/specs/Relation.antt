@@ -145,6 +145,7 @@ pub record SlotsSame (r : List ℕ) (l d c : List Bool) (q : List ℕ) (e : List
 
 -- ---- rows, indices and runs
 
+-- number i of a row's u32, and of its f32
 abbrev pub word : ℕ → Row → ℕ
 word i r = getD (r .words) i 0
 
@@ -265,6 +266,7 @@ HeldSame X R k w =
       recorded : RecordedSame k (w .scene);
     }
 
+-- each count is the length of what is in use, and each group is the same
 pub record Near (D : Bool → Bool → Type 0) (G : ℕ → ℕ → Type 0) (P : List Float → List (List Float) → Viewports → Type 0) (X : ℕ → List (List Float) → Texcoords → Type 0) (R : List Row → Columns → Type 0) (k : Book) (w : World) : Type 0 where
   pub count : Counted k
   pub modes : ModesSame G (k .state) w
