@@ -1,22 +1,23 @@
 -- The small pieces of the original and of the port are alike: flags, products, comparisons, clip code, screen z, pops, fog, lights. Assumes nothing.
 use mathlib.Core.Path.{_≡_, refl, sym, ap, ap₂, _∙_}
 use Prim.Native.Nat.{ℕ, zero, suc, _+_, _-_, _*_, _/_, _%_, _^_, _≤_, _<_}
-use native.Mathlib.Nat.{zero-add, zero-mul, one-mul, pow-suc}
-use native.Mathlib.Numerals.{one-add, add-one}
+use native.Mathlib.Nat.{zero-add, zero-mul, one-mul, mul-div-cancel}
+use native.Mathlib.Numerals.{add-one}
 use native.Mathlib.Omega.{arith}
 use mathlib.Core.Bool.{Bool, true, false, not, _&&_, _||_, cond, Bool·beq}
 use mathlib.Core.List.{List, [], _∷_, _++_, map, map-append}
 use mathlib.Core.Option.{Option, none, some}
-use lib.ListN.{length, getD, take, length-take, length-map, List·getD-map}
+use lib.ListN.{length, getD}
 use lib.Bits.{bitAnd, bitXor, and-high, xor-shr, xor-mod, or-shifted-r}
-use lib.Pow.{pow-pos}
+use lib.Pow.{pow-pos, pow-add, shr-shr}
 use lib.Dec.{eqb, ltb}
 use lib.IntN.{ℤ, pos}
 use lib.Ieee.{Float, nan, neg, lt, eq, ne}
 use lib.Ieee.Scale.{finite}
-use borrow.Author.Tests.{ltb-true, ltb-false, lt-ltb, ne-eqb}
+use borrow.Author.Tests.{ltb-true, ltb-false, eqb-true, eqb-false, eq-eqb, ne-eqb}
 use Rattle.areas.specs.Area.{matches, Wide}
-use Rattle.matrix.specs.Math.{identity as identity′, times, rowTimes, colTimes, laid}
+use Rattle.areas.specs.Widths.{fogWidth}
+use Rattle.matrix.specs.Math.{times, rowTimes, colTimes, laid}
 use Rattle.matrix.specs.Clip.{bitOf, bitsOf, allFinite, codeOf, screenOf, depthOf}
 use Rattle.matrix.specs.declared.clip.ClipCode.{ClipCode}
 use Rattle.matrix.specs.declared.clip.ScreenZ.{ScreenZ}
@@ -27,56 +28,107 @@ use Rattle.fold.specs.Direction.{three, folded}
 use Rattle.fold.specs.Fog.{find}
 use Rattle.fold.specs.Lights.{lightEntry, directional}
 use Rattle.fold.specs.Lookat.{lookatEntry}
-use Rattle.fold.specs.Scales.{sameScale}
 use Rattle.stage.proofs.Judged.{and-assoc, and-true}
-use Rattle.sequence.proofs.Sized.{wide-at}
-use Rattle.original.specs.Math.{f0, ix, identity, mul4, mul-row-vec4, mul-col-vec3}
+use Rattle.original.specs.Math.{f0, ix, mul4, mul-row-vec4, mul-col-vec3}
 use Rattle.original.specs.Rsp.{has, g-mtx-push, g-mtx-load, g-mtx-projection, g-lighting, g-texture-gen, g-texture-gen-linear, g-fog-geom, g-cull-front, g-cull-both, eq-mat, eq-entry, last-is, popped-size}
 use Rattle.original.specs.Drawing.{eq2, unit-length, fold-lights, texgen-of, position, plane, clip-code, screen-of}
 
 -- ---- flags
 
--- a mask of one bit picks that bit
-pub and-bit : (x k : ℕ) → bitAnd x (2 ^ k) ≡ (x / 2 ^ k % 2) * 2 ^ k
-and-bit x k =
-    let e : 2 ^ (1 + k) - 2 ^ k ≡ 2 ^ k = rw (one-add k, pow-suc 2 k) (omega arith) in
-    ap (λ (m : ℕ). bitAnd x m) (sym e) ∙ and-high x 1 k
+-- multiples of the same number
+multiples : (a b p : ℕ) → 0 < p → eqb (a * p) (b * p) ≡ eqb a b
+multiples a b p h = go (eqb a b) refl
+  where
+    go : (t : Bool) → eqb a b ≡ t → eqb (a * p) (b * p) ≡ t
+    go true e = eq-eqb (a * p) (b * p) (ap (λ (n : ℕ). n * p) (eqb-true a b e))
+    go false e = ne-eqb (a * p) (b * p) (λ q. eqb-false a b e (sym (mul-div-cancel a h) ∙ ap (λ (n : ℕ). n / p) q ∙ mul-div-cancel b h))
 
--- a bit, shifted, is not zero just where it is 1
-pub shifted : (b p : ℕ) → b < 2 → 0 < p → not (eqb (b * p) 0) ≡ eqb b 1
-shifted zero p h q = rw zero-mul
-shifted (suc zero) p h q = rw (one-mul p, ne-eqb p 0 (λ e. omega arith))
-shifted (suc (suc b)) p h q = absurd (omega arith)
+-- a mask of one bit picks that bit
+and-bit : (x k : ℕ) → bitAnd x (2 ^ k) ≡ (x / 2 ^ k % 2) * 2 ^ k
+and-bit x k =
+    let e : 2 ^ k ≡ 2 ^ (1 + k) - 2 ^ k = rw (pow-add 2 1 k) (omega arith) in
+    ap (bitAnd x) e ∙ and-high x 1 k
 
 -- the test by a mask of one bit is the test of the flag
 pub has-flag : (x k : ℕ) → has x (2 ^ k) ≡ flag (2 ^ k) x
-has-flag x k = ap (λ (n : ℕ). not (eqb n 0)) (and-bit x k) ∙ shifted (x / 2 ^ k % 2) (2 ^ k) (omega arith) (pow-pos k)
+has-flag x k = rw (and-bit x k) (shifted (x / 2 ^ k % 2) (2 ^ k) (omega arith) (pow-pos k))
+  where
+    shifted : (b p : ℕ) → b < 2 → 0 < p → not (eqb (b * p) 0) ≡ eqb b 1
+    shifted zero p h q = rw zero-mul
+    shifted (suc zero) p h q = rw (one-mul p, ne-eqb p 0 (λ e. omega arith))
+    shifted (suc (suc b)) p h q = absurd (omega arith)
 
--- lighting
+-- a flag differs
+differs : (k old new : ℕ) → has (bitXor old new) (2 ^ k) ≡ not (Bool·beq (flag (2 ^ k) old) (flag (2 ^ k) new))
+differs k old new =
+    has-flag (bitXor old new) k
+    ∙ ap (λ (n : ℕ). eqb n 1) (ap (λ (n : ℕ). n % 2) (xor-shr old new k) ∙ xor-mod (old / 2 ^ k) (new / 2 ^ k) 1)
+    ∙ bits (old / 2 ^ k % 2) (new / 2 ^ k % 2) (omega arith) (omega arith)
+  where
+    bits : (a b : ℕ) → a < 2 → b < 2 → eqb (bitXor a b) 1 ≡ not (Bool·beq (eqb a 1) (eqb b 1))
+    bits zero zero h k = refl
+    bits zero (suc zero) h k = refl
+    bits zero (suc (suc b)) h k = absurd (omega arith)
+    bits (suc zero) zero h k = refl
+    bits (suc zero) (suc zero) h k = refl
+    bits (suc zero) (suc (suc b)) h k = absurd (omega arith)
+    bits (suc (suc a)) b h k = absurd (omega arith)
+
+-- two bits side by side, by the number that they are
+four : (q : ℕ) → q < 4 → (eqb q 3 ≡ eqb (q % 2) 1 && eqb (q / 2) 1) × (eqb q 1 ≡ eqb (q % 2) 1 && not (eqb (q / 2) 1)) × (not (eqb q 0) ≡ eqb (q % 2) 1 || eqb (q / 2) 1)
+four zero h = (refl, refl, refl)
+four (suc zero) h = (refl, refl, refl)
+four (suc (suc zero)) h = (refl, refl, refl)
+four (suc (suc (suc zero))) h = (refl, refl, refl)
+four (suc (suc (suc (suc q)))) h = absurd (omega arith)
+
+-- the tests of two flags by one mask, of values side by side: both set, the lower alone, one at least
+pub record Adjacent (k g : ℕ) : Type 0 where
+  pub both : eqb (bitAnd g (3 * 2 ^ k)) (3 * 2 ^ k) ≡ flag (2 ^ k) g && flag (2 ^ (k + 1)) g
+  pub lower : eqb (bitAnd g (3 * 2 ^ k)) (2 ^ k) ≡ flag (2 ^ k) g && not (flag (2 ^ (k + 1)) g)
+  pub some : not (eqb (bitAnd g (3 * 2 ^ k)) 0) ≡ flag (2 ^ k) g || flag (2 ^ (k + 1)) g
+
+pub adjacent : (k g : ℕ) → Adjacent k g
+adjacent k g =
+    record {
+      both = rw (masked, first, second, multiples (g / 2 ^ k % 4) 3 (2 ^ k) (pow-pos k)) (four (g / 2 ^ k % 4) (omega arith) .0);
+      lower = rw (masked, first, second) (ap (eqb (g / 2 ^ k % 4 * 2 ^ k)) (sym (one-mul (2 ^ k))) ∙ multiples (g / 2 ^ k % 4) 1 (2 ^ k) (pow-pos k) ∙ four (g / 2 ^ k % 4) (omega arith) .1);
+      some = rw (masked, first, second) (ap not (ap (eqb (g / 2 ^ k % 4 * 2 ^ k)) (sym (zero-mul (2 ^ k))) ∙ multiples (g / 2 ^ k % 4) 0 (2 ^ k) (pow-pos k)) ∙ four (g / 2 ^ k % 4) (omega arith) .2);
+    }
+  where
+    masked : bitAnd g (3 * 2 ^ k) ≡ g / 2 ^ k % 4 * 2 ^ k
+    masked =
+        let e : 3 * 2 ^ k ≡ 2 ^ (2 + k) - 2 ^ k = rw (pow-add 2 2 k) (omega arith) in
+        ap (bitAnd g) e ∙ and-high g 2 k
+
+    first : g / 2 ^ k % 2 ≡ g / 2 ^ k % 4 % 2
+    first = omega arith
+
+    second : g / 2 ^ (k + 1) % 2 ≡ g / 2 ^ k % 4 / 2
+    second =
+        let e : g / 2 ^ k / 2 % 2 ≡ g / 2 ^ k % 4 / 2 = omega arith in
+        ap (λ (n : ℕ). n % 2) (sym (shr-shr g k 1)) ∙ e
+
+-- ---- F3DEX2's constants, each by its power of two
+
 pub has-lighting : (g : ℕ) → has g g-lighting ≡ lit f3dex2 g
 has-lighting g = has-flag g 17
 
--- texture generation
-pub has-texgen : (g : ℕ) → has g g-texture-gen ≡ flag (f3dex2 .texgen) g
+has-texgen : (g : ℕ) → has g g-texture-gen ≡ flag (f3dex2 .texgen) g
 has-texgen g = has-flag g 18
 
--- linear texture generation
-pub has-linear : (g : ℕ) → has g g-texture-gen-linear ≡ flag (f3dex2 .linear) g
+has-linear : (g : ℕ) → has g g-texture-gen-linear ≡ flag (f3dex2 .linear) g
 has-linear g = has-flag g 19
 
--- fog
 pub has-fog : (g : ℕ) → has g g-fog-geom ≡ flag (f3dex2 .fog) g
 has-fog g = has-flag g 16
 
--- push
 pub has-push : (p : ℕ) → has p g-mtx-push ≡ flag (f3dex2 .push) p
 has-push p = has-flag p 0
 
--- load
 pub has-load : (p : ℕ) → has p g-mtx-load ≡ flag (f3dex2 .load) p
 has-load p = has-flag p 1
 
--- projection
 pub has-projection : (p : ℕ) → has p g-mtx-projection ≡ flag (f3dex2 .projection) p
 has-projection p = has-flag p 2
 
@@ -87,69 +139,14 @@ texgen-same g =
     ap₂ (λ (a b : Bool). cond (a && b) (cond (has g g-texture-gen-linear) 2 1) 0) (has-lighting g) (has-texgen g)
     ∙ ap (λ (c : Bool). cond (lit f3dex2 g && flag (f3dex2 .texgen) g) (cond c 2 1) 0) (has-linear g)
 
--- two bits differ
-pub differing : (a b : ℕ) → a < 2 → b < 2 → eqb (bitXor a b) 1 ≡ not (Bool·beq (eqb a 1) (eqb b 1))
-differing zero zero h k = refl
-differing zero (suc zero) h k = refl
-differing zero (suc (suc b)) h k = absurd (omega arith)
-differing (suc zero) zero h k = refl
-differing (suc zero) (suc zero) h k = refl
-differing (suc zero) (suc (suc b)) h k = absurd (omega arith)
-differing (suc (suc a)) b h k = absurd (omega arith)
-
 -- the lighting bit changes
 pub relit-same : (old new : ℕ) → has (bitXor old new) g-lighting ≡ relit f3dex2 old new
 unfolding relit
-relit-same old new =
-    has-lighting (bitXor old new)
-    ∙ ap (λ (n : ℕ). eqb n 1) (ap (λ (n : ℕ). n % 2) (xor-shr old new 17) ∙ xor-mod (old / 2 ^ 17) (new / 2 ^ 17) 1)
-    ∙ differing (old / 2 ^ 17 % 2) (new / 2 ^ 17 % 2) (omega arith) (omega arith)
+relit-same old new = differs 17 old new
 
--- ---- cull bits
-
--- the two bits picked
-pub cull-bits : (g : ℕ) → bitAnd g g-cull-both ≡ (g / 512 % 4) * 512
-cull-bits g = and-high g 2 9
-
--- the lower of them is front
-pub cull-front-bit : (g : ℕ) → flag (f3dex2 .front) g ≡ eqb (g / 512 % 4 % 2) 1
-cull-front-bit g = let e : g / 512 % 2 ≡ g / 512 % 4 % 2 = omega arith in ap (λ (n : ℕ). eqb n 1) e
-
--- the upper is back
-pub cull-back-bit : (g : ℕ) → flag (f3dex2 .back) g ≡ eqb (g / 512 % 4 / 2) 1
-cull-back-bit g = let e : g / 1024 % 2 ≡ g / 512 % 4 / 2 = omega arith in ap (λ (n : ℕ). eqb n 1) e
-
--- the three tests of two bits
-pub record Culling (q : ℕ) : Type 0 where
-  pub both : eqb (q * 512) g-cull-both ≡ eqb (q % 2) 1 && eqb (q / 2) 1
-  pub front : eqb (q * 512) g-cull-front ≡ eqb (q % 2) 1 && not (eqb (q / 2) 1)
-  pub some : not (eqb (q * 512) 0) ≡ eqb (q % 2) 1 || eqb (q / 2) 1
-
--- they hold for each of the four
-pub culling : (q : ℕ) → q < 4 → Culling q
-culling zero h = record { both = refl; front = refl; some = refl }
-culling (suc zero) h = record { both = refl; front = refl; some = refl }
-culling (suc (suc zero)) h = record { both = refl; front = refl; some = refl }
-culling (suc (suc (suc zero))) h = record { both = refl; front = refl; some = refl }
-culling (suc (suc (suc (suc q)))) h = absurd (omega arith)
-
--- both bits are set
-pub cull-both-same : (g : ℕ) → eqb (bitAnd g g-cull-both) g-cull-both ≡ both f3dex2 g
-cull-both-same g =
-    ap (λ (n : ℕ). eqb n g-cull-both) (cull-bits g) ∙ culling (g / 512 % 4) (omega arith) .both
-    ∙ ap₂ (λ (a b : Bool). a && b) (sym (cull-front-bit g)) (sym (cull-back-bit g))
-
--- only the front bit is set
-pub cull-front-same : (g : ℕ) → eqb (bitAnd g g-cull-both) g-cull-front ≡ swaps f3dex2 g
-cull-front-same g =
-    ap (λ (n : ℕ). eqb n g-cull-front) (cull-bits g) ∙ culling (g / 512 % 4) (omega arith) .front
-    ∙ ap₂ (λ (a b : Bool). a && not b) (sym (cull-front-bit g)) (sym (cull-back-bit g))
-
--- one bit at least is set
-pub cull-some-same : (g : ℕ) → not (eqb (bitAnd g g-cull-both) 0) ≡ culls f3dex2 g
-cull-some-same g =
-    ap (λ (n : ℕ). not (eqb n 0)) (cull-bits g) ∙ culling (g / 512 % 4) (omega arith) .some
-    ∙ ap₂ (λ (a b : Bool). a || b) (sym (cull-front-bit g)) (sym (cull-back-bit g))
+-- the cull bits: both, front alone, one at least
+pub culling : (g : ℕ) → (eqb (bitAnd g g-cull-both) g-cull-both ≡ both f3dex2 g) × (eqb (bitAnd g g-cull-both) g-cull-front ≡ swaps f3dex2 g) × (not (eqb (bitAnd g g-cull-both) 0) ≡ culls f3dex2 g)
+culling g = let a = adjacent 9 g in (a .both, a .lower, a .some)
 
 -- ---- products
 
@@ -163,19 +160,10 @@ pub row-same : (v : List Float) (m : List (List Float)) → mul-row-vec4 v m ≡
 unfolding mul-row-vec4 rowTimes
 row-same v m = refl
 
--- a matrix times a column
-pub col-same : (m : List (List Float)) (v : List Float) → mul-col-vec3 m v ≡ colTimes m v
-unfolding mul-col-vec3 colTimes
-col-same m v = refl
-
 -- a direction folded
 pub folded-same : (m : List (List Float)) (v : List Float) → unit-length (mul-col-vec3 m v) ≡ folded m v
 unfolding unit-length mul-col-vec3 folded colTimes
 folded-same m v = refl
-
--- the identity
-pub identity-same : identity ≡ identity′
-identity-same = refl
 
 -- ---- comparisons
 
@@ -210,21 +198,6 @@ entry-same s t u v hs ht hu hv =
 pub pair-same : (a b : List Float) → length a ≡ 2 → length b ≡ 2 → eq2 a b ≡ matches eq a b
 unfolding matches
 pair-same a b ha hb = rw (two-is a nan ha, two-is b nan hb) (simp and-true)
-
--- the first pairs of two entries of four numbers, as table 3 has them
-pub scale-same : (a b : List Float) → length a ≡ 4 → length b ≡ 4 → eq2 (take 2 a) (take 2 b) ≡ matches eq (take 2 a) (take 2 b)
-scale-same a b ha hb = pair-same (take 2 a) (take 2 b) (rw (length-take 2 a, ha)) (rw (length-take 2 b, hb))
-
--- two numbers at least, by the first two
-pub first-pair : (a : List Float) → 2 ≤ length a → take 2 a ≡ ix a 0 ∷ ix a 1 ∷ []
-first-pair [] h = absurd (omega arith)
-first-pair (x ∷ []) h = absurd (omega arith)
-first-pair (x ∷ y ∷ l) h = refl
-
--- the same, of lists of two numbers at least that are not cut
-pub front-same : (a b : List Float) → 2 ≤ length a → 2 ≤ length b → eq2 a b ≡ matches eq (take 2 a) (take 2 b)
-unfolding matches
-front-same a b ha hb = rw (first-pair a ha, first-pair b hb, and-true)
 
 -- ---- the clip code and the screen z
 
@@ -322,17 +295,12 @@ popped-same (suc count) size h = go (popped-same count) (ltb 1 size) refl
 -- ---- fog
 
 -- the place of a pair
-pub position-same : (es : List (List ℤ)) (m o : ℤ) → Wide 2 es → position es m o ≡ find es (m ∷ o ∷ [])
+pub position-same : (es : List (List ℤ)) (m o : ℤ) → Wide fogWidth es → position es m o ≡ find es (m ∷ o ∷ [])
 unfolding position find matches
 position-same [] m o h = refl
 position-same (e ∷ es) m o h = rw (two-is e (pos 0) (h .0), and-true, position-same es m o (h .1), add-one)
 
 -- ---- the last of a list
-
--- an empty list has no last
-pub last-none : {A : Type 0} (same : A → A → Bool) (x : A) → last-is same [] x ≡ false
-unfolding last-is
-last-none same x = refl
 
 -- the last of a list that is not empty
 pub last-final : {A : Type 0} (same : A → A → Bool) (l : List A) (x d : A) → 0 < length l → last-is same l x ≡ same (getD l (length l - 1) d) x
@@ -345,16 +313,6 @@ last-final same (y ∷ z ∷ l) x d h =
     last-final same (z ∷ l) x d (omega arith)
     ∙ ap (λ (n : ℕ). same (getD (z ∷ l) n d) x) e
     ∙ sym (ap (λ (n : ℕ). same (getD (y ∷ z ∷ l) n d) x) f)
-
--- the last of the texture scales: the original keeps the pairs in two tables, the port in one
-pub scales-same : (es : List (List Float)) (e : List Float) → Wide 4 es → length e ≡ 4 → last-is eq2 (map (take 2) es) (take 2 e) ≡ sameScale es e
-unfolding sameScale
-scales-same [] e h k = last-none eq2 (take 2 e)
-scales-same (x ∷ es) e h k =
-    let n : 0 < suc (length es) = omega arith in
-    last-final eq2 (map (take 2) (x ∷ es)) (take 2 e) [] (omega arith)
-    ∙ rw (length-map es (take 2), List·getD-map (take 2) (x ∷ es) (suc (length es) - 1) [], lt-ltb 0 (suc (length es)) n)
-    (scale-same (getD (x ∷ es) (suc (length es) - 1) []) e (wide-at 4 (x ∷ es) (suc (length es) - 1) h (omega arith)) k)
 
 -- ---- lights
 

@@ -8,17 +8,17 @@ use lib.ListN.{length, set}
 use lib.Dec.{eqb, ltb}
 use lib.Ieee.{Float}
 use Rattle.areas.specs.Area.{put}
+use Rattle.areas.specs.Widths.{matrixWidth}
 use Rattle.decide.specs.Family.{f3dex2, flag}
 use Rattle.decide.specs.Stack.{made, pushed, popped}
 use Rattle.layout.specs.Layout.{matrixAt}
 use Rattle.matrix.specs.Math.{times, rows, laid}
 use Rattle.stage.specs.declared.State.{State}
-use Rattle.stage.specs.Plan.{Plan, refuse, does, Edit, Edits, keep, grow, Row, pick, advance}
-use Rattle.stage.specs.With.{withCounts, withModel, withProjection, withCombined}
-use Rattle.stage.specs.Matrices.{edits1, modelTop, combine, turned}
+use Rattle.stage.specs.Plan.{Plan, refuse, does, Edits, keep, grow, Row, pick, advance}
+use Rattle.stage.specs.With.{withCounts, withModel, withProjection}
+use Rattle.stage.specs.Matrices.{modelTop, combine, turned}
 use Rattle.sequence.specs.Sequence.{Command, matrix, force, pop, Book, plan}
-use Rattle.sequence.proofs.Turn.{edit, edited, enter}
-use Rattle.sequence.proofs.Counted.{counted-then}
+use Rattle.sequence.proofs.Turn.{edited, enter}
 use Rattle.sequence.proofs.Accepts.{Accepted, on-combine, on-matrix, on-force, on-pop}
 use Rattle.original.specs.Math.{Mat4, mul4}
 use Rattle.original.specs.Memory.{read-matrix}
@@ -28,6 +28,7 @@ use Rattle.original.specs.Walk.{World, Went, with-matrices, with-rsp, ex
 use Rattle.original.specs.Relation.{MatrixSame, Near}
 use Rattle.original.specs.Domain.{Data, Agrees}
 use Rattle.original.proofs.Alike.{has-push, has-load, has-projection, popped-same}
+use Rattle.original.proofs.Nears.{space-near}
 use Rattle.original.proofs.Readers.{matrix-same}
 use Rattle.original.proofs.Stacks.{combined-by, recompute-is, combined-same, combined-new, product-same, depth-lowered, projection-set, model-set}
 
@@ -72,40 +73,21 @@ abbrev pub withMatrices : World → Matrices → World
 withMatrices w m = with-rsp w (with-matrices (w .rsp) m)
 
 module _ {D : Bool → Bool → Type 0} {G : ℕ → ℕ → Type 0} {P : List Float → List (List Float) → Viewports → Type 0} {X : ℕ → List (List Float) → Texcoords → Type 0} {R : List Row → Columns → Type 0} {k : Book} {w : World} (N : Near D G P X R k w) where
-  -- other matrices on both sides, and what table 1 gets; all else stays
-  matrices-near : {D′ : Bool → Bool → Type 0} {d : ℕ} {st p c : List Float} {b : Bool} {m : Matrices} (e : Edit (List Float)) → MatrixSame d st p c (edit e (k .matrices .used)) m → D′ b (m .mvp-valid)
-      → Near D′ G P X R (enter (withCombined (withProjection (withModel (k .state) d st) p) c b) (edits1 e) k) (withMatrices w m)
-  matrices-near e same defined =
-      record {
-        count = counted-then k (k .state) (edits1 e) (N .count);
-        settings = N .settings;
-        matrices = same;
-        defined = defined;
-        view = N .view;
-        lights = N .lights;
-        lookat = N .lookat;
-        slots = N .slots;
-        scales = N .scales;
-        rows = N .rows;
-        recorded = N .recorded;
-      }
-
-module _ {D : Bool → Bool → Type 0} {G : ℕ → ℕ → Type 0} {P : List Float → List (List Float) → Viewports → Type 0} {X : ℕ → List (List Float) → Texcoords → Type 0} {R : List Row → Columns → Type 0} {k : Book} {w : World} (N : Near D G P X R k w) where
   -- a new combined matrix, on both sides
   combine-agrees : (mvp : Mat4) (v : List Float) → v ≡ laid mvp
       → Accepted (λ vs t e. (vs ≡ []) × Near _≡_ G P X R (enter t e k) (withMatrices w (combined-by mvp (w .rsp .matrices)))) (combine (k .state) (k .matrices) v)
   unfolding combined-by
   combine-agrees mvp v q =
       on-combine _ (k .state) (k .matrices) v
-      (λ e. (refl, matrices-near N keep (rw q (combined-same (N .matrices) mvp (rw q at e))) refl))
-      (λ e _. (refl, matrices-near N (grow (v ∷ [])) (rw q (combined-new (N .matrices) mvp (rw q at e))) refl))
+      (λ e. (refl, space-near N keep keep (rw q (combined-same (N .space .matrices) mvp (rw q at e))) refl (N .space .view)))
+      (λ e _. (refl, space-near N (grow (v ∷ [])) keep (rw q (combined-new (N .space .matrices) mvp (rw q at e))) refl (N .space .view)))
 
   -- the two sides with other matrices, of which nothing is appended yet
   turned-near : (s : State) (m : Matrices) → s ≡ withProjection (withModel (k .state) (s .depth) (s .stack)) (s .projection) → m .mvp-valid ≡ w .rsp .matrices .mvp-valid
       → MatrixSame (s .depth) (s .stack) (s .projection) (k .state .combined) (k .matrices .used) m → Near D G P X R (withState k s) (withMatrices w m)
   turned-near s m e v M =
       subst (λ (u : State). Near D G P X R (withState k u) (withMatrices w m)) (sym e)
-      (matrices-near N keep M (rw v (N .defined)))
+      (space-near N keep keep M (rw v (N .space .defined)) (N .space .view))
 
 -- ---- the commands
 
@@ -138,7 +120,7 @@ module _ {D : Bool → Bool → Type 0} {G : ℕ → ℕ → Type 0} {P : List F
       (λ vs t e a.
       rw (x, recompute-is m)
       (a .0, subst (λ (b : Book). Near _≡_ G P X R b (withMatrices w (combined-by (mul4 (mv-top m) (m .viewproj)) m))) (entered s t e q) (a .1)))
-      _ (combine-agrees n (mul4 (mv-top m) (m .viewproj)) (laid (times (modelTop s) (rows (s .projection) 0))) (product-same (n .matrices)))
+      _ (combine-agrees n (mul4 (mv-top m) (m .viewproj)) (laid (times (modelTop s) (rows (s .projection) 0))) (product-same (n .space .matrices)))
 
   module _ (flags : ℕ) (bytes : List ℕ) (at : ℕ) (I : Data bytes) (fits : at + 64 ≤ length bytes) where
     read : read-matrix bytes at ≡ matrixAt bytes at
@@ -155,17 +137,17 @@ module _ {D : Bool → Bool → Type 0} {G : ℕ → ℕ → Type 0} {P : List F
         recomputed _
         (with-viewproj (w .rsp .matrices) (cond (flag (f3dex2 .load) flags) (matrixAt bytes at) (mul4 (matrixAt bytes at) (w .rsp .matrices .viewproj))))
         (matrix flags bytes at)
-        (turned-near N _ _ refl refl (projection-set (N .matrices) (flag (f3dex2 .load) flags) (matrixAt bytes at)))
+        (turned-near N _ _ refl refl (projection-set (N .space .matrices) (flag (f3dex2 .load) flags) (matrixAt bytes at)))
         refl (rw (has-projection flags, e, has-load flags, read))
 
     turns-model : flag (f3dex2 .projection) flags ≡ false
-        → Turns (withModel (k .state) (pushed (flag (f3dex2 .push) flags) (k .state .depth)) (put (k .state .stack) (16 * (pushed (flag (f3dex2 .push) flags) (k .state .depth) - 1)) (laid (made (flag (f3dex2 .load) flags) (matrixAt bytes at) (modelTop (k .state))))))
+        → Turns (withModel (k .state) (pushed (flag (f3dex2 .push) flags) (k .state .depth)) (put (k .state .stack) (matrixWidth * (pushed (flag (f3dex2 .push) flags) (k .state .depth) - 1)) (laid (made (flag (f3dex2 .load) flags) (matrixAt bytes at) (modelTop (k .state))))))
     unfolding execute matrix-fn
     turns-model e =
         recomputed _
         (write-top (flag (f3dex2 .load) flags) (matrixAt bytes at) (push-model (flag (f3dex2 .push) flags) (w .rsp .matrices)))
         (matrix flags bytes at)
-        (turned-near N _ _ refl (same-mark (flag (f3dex2 .load) flags) (flag (f3dex2 .push) flags)) (model-set (N .matrices) (flag (f3dex2 .push) flags) (flag (f3dex2 .load) flags) (matrixAt bytes at)))
+        (turned-near N _ _ refl (same-mark (flag (f3dex2 .load) flags) (flag (f3dex2 .push) flags)) (model-set (N .space .matrices) (flag (f3dex2 .push) flags) (flag (f3dex2 .load) flags) (matrixAt bytes at)))
         refl (rw (has-projection flags, e, has-load flags, has-push flags, read))
       where
         same-mark : (load push : Bool) → write-top load (matrixAt bytes at) (push-model push (w .rsp .matrices)) .mvp-valid ≡ w .rsp .matrices .mvp-valid
@@ -203,7 +185,7 @@ module _ {D : Bool → Bool → Type 0} {G : ℕ → ℕ → Type 0} {P : List F
       -- the current entry is the last in either case
       index : (b : Bool) → last-is eq-mat (m .mvp-table) x ≡ b
           → cond (last-is eq-mat (m .mvp-table) x) (m .cur-mvp-index) (length (m .mvp-table ++ x ∷ []) - 1) ≡ length (cond (last-is eq-mat (m .mvp-table) x) (m .mvp-table) (m .mvp-table ++ x ∷ [])) - 1
-      index true q = rw q (N .matrices .current)
+      index true q = rw q (N .space .matrices .current)
       index false q = rw q refl
 
       forced : combined-by x m ≡ force-matrix bytes at m
@@ -229,18 +211,18 @@ module _ {D : Bool → Bool → Type 0} {G : ℕ → ℕ → Type 0} {P : List F
       subst (λ (u : State). Accepted (λ vs t e. Agrees (Near D G P X R) vs (enter t e k) (execute (pop count) w)) (combine u (k .matrices) (laid (times (modelTop u) (rows (u .projection) 0))))) (sym z)
       (accepted-map _ _ (λ vs t e. weaken vs (enter t e k) (execute (pop count) w))
       _ (recomputed (withModel (k .state) (popped count (k .state .depth)) (k .state .stack)) (with-stack (w .rsp .matrices) (w .rsp .matrices .model-stack) (popped count (k .state .depth))) (pop count)
-      (turned-near N _ _ refl refl (depth-lowered (N .matrices) (popped count (k .state .depth)) (in-range .0) (in-range .1)))
+      (turned-near N _ _ refl refl (depth-lowered (N .space .matrices) (popped count (k .state .depth)) (in-range .0) (in-range .1)))
       refl (rw (tested ∙ q, same-size)))))
     where
       in-range : (1 ≤ popped count (k .state .depth)) × (popped count (k .state .depth) ≤ k .state .depth)
-      in-range = lowered count (k .state .depth) (N .matrices .low)
+      in-range = lowered count (k .state .depth) (N .space .matrices .low)
 
       same-size : popped-size count (w .rsp .matrices .model-stack-size) ≡ popped count (k .state .depth)
-      same-size = popped-same count (w .rsp .matrices .model-stack-size) (rw (← (N .matrices .depth)) (N .matrices .low)) ∙ ap (popped count) (sym (N .matrices .depth))
+      same-size = popped-same count (w .rsp .matrices .model-stack-size) (rw (← (N .space .matrices .depth)) (N .space .matrices .low)) ∙ ap (popped count) (sym (N .space .matrices .depth))
 
       tested : eqb (popped-size count (w .rsp .matrices .model-stack-size)) (w .rsp .matrices .model-stack-size) ≡ eqb (popped count (k .state .depth)) (k .state .depth)
-      tested = ap₂ eqb same-size (sym (N .matrices .depth))
+      tested = ap₂ eqb same-size (sym (N .space .matrices .depth))
 
       weaken : (vs : List ℕ) (b : Book) (r : Result Went) → Agrees (Near _≡_ G P X R) vs b r → Agrees (Near D G P X R) vs b r
-      weaken vs b (Ok g) a = (a .0, matrices-near (a .1) keep (a .1 .matrices) (weaker _ _ (a .1 .defined)))
+      weaken vs b (Ok g) a = (a .0, space-near (a .1) keep keep (a .1 .space .matrices) (weaker _ _ (a .1 .space .defined)) (a .1 .space .view))
       weaken vs b (Err d) a = a

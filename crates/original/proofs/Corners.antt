@@ -9,14 +9,16 @@ use lib.Seq.{getD-append-add}
 use lib.Dec.{eqb}
 use lib.Ieee.{Float, nan}
 use Rattle.areas.specs.Area.{part}
+use Rattle.areas.specs.Widths.{floatWidth, flagsWord, matrixWord, viewportWord, scaleWord, colourWord, lightWord, lightsWord, texgenWord, fogWord, lookatWord}
 use Rattle.stage.specs.Plan.{Row, pick}
 use Rattle.sequence.specs.Sequence.{Book}
 use Rattle.sequence.proofs.Spelled.{spells}
 use Rattle.finished.specs.Shown.{entriesOf, fogShown, noRow, shownBy, shown}
 use Rattle.original.specs.Walk.{World}
-use Rattle.original.specs.Relation.{over, Offsets, Meets, joined, fours, word, Same, seen, CornersSame}
+use Rattle.original.specs.Relation.{over, Offsets, Meets, joined, word, made-of, Since, Same, compared, seen, CornersSame}
 use Rattle.original.specs.Domain.{Met}
-use Rattle.original.proofs.RowsOf.{made-of, row-read}
+use Rattle.original.proofs.RowsOf.{row-read}
+use Rattle.original.proofs.Views.{fours-at}
 
 -- a number at or after the point names the same entry on both sides
 meets-at : {a b : ℕ} {t u : List (List Float)} → Meets a b t u → (m : ℕ) → a ≤ m → getD t m [] ≡ getD u (over a b m) []
@@ -25,14 +27,6 @@ meets-at {a} {b} M m h =
     let p : m ≡ length (M .before) + n = omega (arith, M .port-size) in
     let q : over a b m ≡ length (M .under) + n = omega (arith, M .rust-size) in
     rw (M .port-is, M .rust-is, q, getD-append-add (M .under) (M .since) n []) (ap (λ (i : ℕ). getD (M .before ++ M .since) i []) p ∙ getD-append-add (M .before) (M .since) n [])
-
--- an entry of the coordinate pairs and of the texgen pairs
-fours-at : (cs gs : List (List Float)) → length cs ≡ length gs → (i : ℕ) → getD (fours cs gs) i [] ≡ getD cs i [] ++ getD gs i []
-fours-at [] [] e i = refl
-fours-at [] (g ∷ gs) e i = absurd (omega (arith, e))
-fours-at (c ∷ cs) [] e i = absurd (omega (arith, e))
-fours-at (c ∷ cs) (g ∷ gs) e zero = refl
-fours-at (c ∷ cs) (g ∷ gs) e (suc i) = fours-at cs gs (omega (arith, e)) i
 
 map-part : {A B : Type 0} (g : A → B) (l : List A) (i n : ℕ) → part (map g l) i n ≡ map g (part l i n)
 map-part g [] i zero = refl
@@ -43,24 +37,24 @@ map-part {A} {B} g (x ∷ l) zero (suc n) = ap (λ (t : List B). g x ∷ t) (map
 map-part g (x ∷ l) (suc i) n = map-part g l i n
 
 module _ {o : Offsets} {k : Book} {w : World} (S : Same o k w) where
-  corner-same : (r : Row) → length (r .floats) ≡ 9 → o .port2 ≤ word 2 r → o .port3 ≤ word 3 r → shown (entriesOf k) r ≡ seen w (made-of o r)
+  corner-same : (r : Row) → Since o r → compared (shown (entriesOf k) r) ≡ seen w (made-of o r)
   unfolding shown shownBy seen made-of
-  corner-same r n a b = λ i.
+  corner-same r h = λ i.
       record {
-        floats = spells nan (r .floats) 9 n i;
-        flags = word 0 r;
-        matrix = getD (S .matrices .table i) (word 1 r) [];
-        viewport = (meets-at (S .view .table) (word 2 r) a ∙ List·getD-map joined (w .rsp .viewports .viewport-table) _ ([], [])) i;
-        scale = (meets-at (S .scales .table) (word 3 r) b ∙ fours-at (w .rsp .texcoords .texcoord-table) (w .rsp .texcoords .texgen-scale-table) (S .scales .beside) (over (o .port3) (o .rust3) (word 3 r))) i;
-        colour = word 4 r;
-        lights = (ap (λ t. part t (word 5 r) (word 6 r)) (S .recorded .light-table) ∙ map-part joined (w .scene .lights-table) (word 5 r) (word 6 r)) i;
-        texgen = word 7 r;
-        fog = fogShown (S .recorded .fog-table i) (word 8 r);
-        lookat = pick (eqb (word 7 r) 0) none (some ((ap (λ t. getD t (word 9 r) []) (S .recorded .lookat-table) ∙ List·getD-map joined (w .scene .lookat-table) (word 9 r) ([], [])) i));
+        floats = spells nan (r .floats) floatWidth (h .floats) i;
+        flags = word flagsWord r;
+        matrix = getD (S .space .matrices .table i) (word matrixWord r) [];
+        viewport = (meets-at (S .space .view .table) (word viewportWord r) (h .viewport) ∙ List·getD-map joined (w .rsp .viewports .viewport-table) _ ([], [])) i;
+        scale = (meets-at (S .held .scales .table) (word scaleWord r) (h .scale) ∙ fours-at (w .rsp .texcoords .texcoord-table) (w .rsp .texcoords .texgen-scale-table) (S .held .scales .beside) (over (o .port3) (o .rust3) (word scaleWord r))) i;
+        colour = word colourWord r;
+        lights = (ap (λ t. part t (word lightWord r) (word lightsWord r)) (S .held .recorded .light-table) ∙ map-part joined (w .scene .lights-table) (word lightWord r) (word lightsWord r)) i;
+        texgen = word texgenWord r;
+        fog = fogShown (S .held .recorded .fog-table i) (word fogWord r);
+        lookat = pick (eqb (word texgenWord r) 0) none (some ((ap (λ t. getD t (word lookatWord r) []) (S .held .recorded .lookat-table) ∙ List·getD-map joined (w .scene .lookat-table) (word lookatWord r) ([], [])) i));
       }
 
   pub corners-same : CornersSame k w
-  corners-same i h = corner-same (getD (k .rows .used) i noRow) (S .rows .nine i h) (S .rows .since2 i h) (S .rows .since3 i h) ∙ ap (seen w) (sym (row-read (S .rows) i h))
+  corners-same i h = corner-same (getD (k .rows .used) i noRow) (S .held .rows .each i h) ∙ ap (seen w) (sym (row-read (S .held .rows) i h))
 
 pub met-corners : {k : Book} {w : World} → Met k w → CornersSame k w
 met-corners m = corners-same (m .same)

@@ -9,6 +9,7 @@ use lib.Bits.{bitAnd}
 use lib.Dec.{eqb}
 use lib.Ieee.{Float}
 use Rattle.areas.specs.Area.{matches}
+use Rattle.areas.specs.Widths.{settingsWide}
 use Rattle.decide.specs.Append.{final}
 use Rattle.decide.specs.Family.{f3dex2}
 use Rattle.triangle.specs.Run.{unclipped, settings, runOf, longer, sameRun}
@@ -20,14 +21,14 @@ use Rattle.stage.specs.Lights.{microcodeNumber}
 use Rattle.stage.specs.Draw.{edits89, mark, triangle, runEdit}
 use Rattle.sequence.specs.Sequence.{draw, Book, plan}
 use Rattle.sequence.proofs.Turn.{edit, enter}
-use Rattle.sequence.proofs.Counted.{counted-then}
 use Rattle.sequence.proofs.Accepts.{Accepted, on-draw}
 use Rattle.original.specs.Rsp.{Viewports, Texcoords, g-cull-front, g-cull-both}
 use Rattle.original.specs.Drawing.{Columns, DrawRun, coalesces, grown, runs-then, is-non, draw-tri}
 use Rattle.original.specs.Walk.{World, execute}
 use Rattle.original.specs.Relation.{SlotsSame, runNumbers, Near}
 use Rattle.original.specs.Domain.{Agrees}
-use Rattle.original.proofs.Alike.{cull-both-same, cull-front-same, cull-some-same}
+use Rattle.original.proofs.Alike.{culling}
+use Rattle.original.proofs.Nears.{held-near}
 use Rattle.original.proofs.Stacks.{getD-map, map-snoc}
 
 -- ---- runs
@@ -58,7 +59,7 @@ non-same F3dex2NoN = refl
 
 -- a run's six settings are those asked, on each side
 pub settings-same : (r : DrawRun) (kind non : Bool) (material mode fog prim : ℕ)
-    → matches eqb (take 6 (runNumbers r)) (material ∷ mode ∷ fog ∷ prim ∷ bit kind ∷ bit non ∷ []) ≡ coalesces r kind non material mode fog prim
+    → matches eqb (take settingsWide (runNumbers r)) (material ∷ mode ∷ fog ∷ prim ∷ bit kind ∷ bit non ∷ []) ≡ coalesces r kind non material mode fog prim
 unfolding matches
 settings-same r kind non material mode fog prim =
     rw (bits-same (r .cull) kind, bits-same (r .unclipped-depth) non)
@@ -91,7 +92,7 @@ runs-last same new (r ∷ s ∷ rs) h =
     pushed false = refl
 
 -- the two sides' runs after a draw with the settings q, n indices before it
-pub runs-same : (same : DrawRun → Bool) (new : DrawRun) (rs : List DrawRun) (q : List ℕ) (n : ℕ) → 0 < length q → ((r : DrawRun) → matches eqb (take 6 (runNumbers r)) q ≡ same r) → runNumbers new ≡ runOf q n 3
+pub runs-same : (same : DrawRun → Bool) (new : DrawRun) (rs : List DrawRun) (q : List ℕ) (n : ℕ) → 0 < length q → ((r : DrawRun) → matches eqb (take settingsWide (runNumbers r)) q ≡ same r) → runNumbers new ≡ runOf q n 3
     → edit (runEdit (map runNumbers rs) n q) (map runNumbers rs) ≡ map runNumbers (runs-then same new rs)
 unfolding runEdit sameRun runs-then pick matches
 runs-same same new [] [] n h e f = absurd (omega arith)
@@ -114,7 +115,7 @@ runs-same same new (r ∷ rs) q n h e f = go (same z) refl
     ends = ap (λ (m : ℕ). getD (map runNumbers (r ∷ rs)) m []) long ∙ getD-map runNumbers (r ∷ rs) (length (r ∷ rs) - 1) noRun [] (omega arith)
 
     go : (b : Bool) → same z ≡ b
-        → edit (pick (matches eqb (take 6 (final (map runNumbers (r ∷ rs)))) q) (patch (length (map runNumbers (r ∷ rs)) - 1) (longer (final (map runNumbers (r ∷ rs))))) (grow (runOf q n 3 ∷ []))) (map runNumbers (r ∷ rs))
+        → edit (pick (matches eqb (take settingsWide (final (map runNumbers (r ∷ rs)))) q) (patch (length (map runNumbers (r ∷ rs)) - 1) (longer (final (map runNumbers (r ∷ rs))))) (grow (runOf q n 3 ∷ []))) (map runNumbers (r ∷ rs))
         ≡ map runNumbers (runs-then same new (r ∷ rs))
     go true b = rw (ends, e z, b, long, runs-last same new (r ∷ rs) (omega arith), b) (sym (map-set runNumbers (r ∷ rs) (length (r ∷ rs) - 1) (grown z)))
     go false b = rw (ends, e z, b, runs-last same new (r ∷ rs) (omega arith), b, ← f) (sym (map-snoc runNumbers (r ∷ rs) new))
@@ -140,53 +141,44 @@ draw-agrees {D} {P} {X} {R} {k} {w} N a b c material mode colour prim =
     (λ e _ _ _ _.
     rw (sides ∙ e) (
       refl,
-      record {
-        count = counted-then k (k .state) (edits89 (grow (triangle f3dex2 (k .state) a b c)) (runEdit (k .runs .used) (length (k .indices .used)) (settings (material ∷ mode ∷ colour ∷ prim ∷ []) (culls f3dex2 (k .state .geometry)) (k .state .microcode)))) (N .count);
-        settings = N .settings;
-        matrices = N .matrices;
-        defined = N .defined;
-        view = N .view;
-        lights = N .lights;
-        lookat = N .lookat;
-        slots = marked;
-        scales = N .scales;
-        rows = N .rows;
-        recorded = record { light-table = N .recorded .light-table; lookat-table = N .recorded .lookat-table; fog-table = N .recorded .fog-table; fog-pairs = N .recorded .fog-pairs; indices = indexed; runs = run };
-      },
+      held-near N
+          (edits89 (grow (triangle f3dex2 (k .state) a b c)) (runEdit (k .runs .used) (length (k .indices .used)) (settings (material ∷ mode ∷ colour ∷ prim ∷ []) (culls f3dex2 (k .state .geometry)) (k .state .microcode))))
+          marked (N .held .scales) (N .held .rows)
+          (record { light-table = N .held .recorded .light-table; lookat-table = N .held .recorded .lookat-table; fog-table = N .held .recorded .fog-table; fog-pairs = N .held .recorded .fog-pairs; indices = indexed; runs = run }),
     ))
   where
     g : ℕ
     g = w .rsp .geom
 
     sides : eqb (bitAnd (w .rsp .geom) g-cull-both) g-cull-both ≡ both f3dex2 (k .state .geometry)
-    sides = cull-both-same (w .rsp .geom) ∙ ap (both f3dex2) (sym (N .settings .geometry))
+    sides = culling (w .rsp .geom) .0 ∙ ap (both f3dex2) (sym (N .modes .settings .geometry))
 
     front : eqb (bitAnd (w .rsp .geom) g-cull-both) g-cull-front ≡ swaps f3dex2 (k .state .geometry)
-    front = cull-front-same (w .rsp .geom) ∙ ap (swaps f3dex2) (sym (N .settings .geometry))
+    front = culling (w .rsp .geom) .1 ∙ ap (swaps f3dex2) (sym (N .modes .settings .geometry))
 
     some-side : not (eqb (bitAnd (w .rsp .geom) g-cull-both) 0) ≡ culls f3dex2 (k .state .geometry)
-    some-side = cull-some-same (w .rsp .geom) ∙ ap (culls f3dex2) (sym (N .settings .geometry))
+    some-side = culling (w .rsp .geom) .2 ∙ ap (culls f3dex2) (sym (N .modes .settings .geometry))
 
     marked : SlotsSame (k .state .row) (k .state .loaded) (mark (k .state .drawn) (a ∷ b ∷ c ∷ [])) (k .state .coded) (k .state .code) (k .state .deep) (k .state .z)
         (record { cache-global-index = w .rsp .slots .cache-global-index; loaded = w .rsp .slots .loaded; clip-codes = w .rsp .slots .clip-codes; screen-z = w .rsp .slots .screen-z; used = set (set (set (w .rsp .slots .used) a true) b true) c true })
     marked =
-        let S = N .slots in
+        let S = N .held .slots in
         record { row = S .row; loaded = S .loaded; drawn = ap (λ (d : List Bool). mark d (a ∷ b ∷ c ∷ [])) (S .drawn); coded = S .coded; code = S .code; deep = S .deep; z = S .z }
 
     indexed : k .indices .used ++ triangle f3dex2 (k .state) a b c
         ≡ map (λ (i : ℕ). i ∷ []) (w .scene .indices ++ getD (w .rsp .slots .cache-global-index) (cond (eqb (bitAnd (w .rsp .geom) g-cull-both) g-cull-front) c a) 0 ∷ getD (w .rsp .slots .cache-global-index) b 0 ∷ getD (w .rsp .slots .cache-global-index) (cond (eqb (bitAnd (w .rsp .geom) g-cull-both) g-cull-front) a c) 0 ∷ [])
     indexed =
-        rw (three-more, front, ← (N .slots .row), ← (N .recorded .indices))
+        rw (three-more, front, ← (N .held .slots .row), ← (N .held .recorded .indices))
         (ap (λ (t : List (List ℕ)). k .indices .used ++ t) (turned-same (k .state .row) (swaps f3dex2 (k .state .geometry)) a b c))
 
     six : settings (material ∷ mode ∷ colour ∷ prim ∷ []) (culls f3dex2 (k .state .geometry)) (k .state .microcode) ≡ material ∷ mode ∷ colour ∷ prim ∷ bit (not (eqb (bitAnd (w .rsp .geom) g-cull-both) 0)) ∷ bit (is-non (w .rsp .microcode)) ∷ []
-    six = rw (some-side, N .settings .microcode, non-same (w .rsp .microcode))
+    six = rw (some-side, N .modes .settings .microcode, non-same (w .rsp .microcode))
 
     run : edit (runEdit (k .runs .used) (length (k .indices .used)) (settings (material ∷ mode ∷ colour ∷ prim ∷ []) (culls f3dex2 (k .state .geometry)) (k .state .microcode))) (k .runs .used)
         ≡ map runNumbers (runs-then (λ (q : DrawRun). coalesces q (not (eqb (bitAnd (w .rsp .geom) g-cull-both) 0)) (is-non (w .rsp .microcode)) material mode colour prim)
         (record { material-index = material; render-mode-index = mode; fog-color = colour; prim-depth = prim; cull = not (eqb (bitAnd (w .rsp .geom) g-cull-both) 0); unclipped-depth = is-non (w .rsp .microcode); index-count = 3; index-start = length (w .scene .indices) })
         (w .scene .draw-runs))
     run =
-        rw (six, N .recorded .runs, N .recorded .indices, length-map (w .scene .indices) (λ (i : ℕ). i ∷ []))
+        rw (six, N .held .recorded .runs, N .held .recorded .indices, length-map (w .scene .indices) (λ (i : ℕ). i ∷ []))
         (runs-same _ _ (w .scene .draw-runs) _ (length (w .scene .indices)) (omega arith)
         (λ r. settings-same r (not (eqb (bitAnd (w .rsp .geom) g-cull-both) 0)) (is-non (w .rsp .microcode)) material mode colour prim) refl)

@@ -33,7 +33,7 @@ agrees o k w N (force bytes at) h = force-agrees N bytes at h
 agrees o k w N (pop count) h = pop-agrees N (λ a b e. e) count
 agrees o k w N (viewport bytes at) h = viewport-agrees N bytes at h
 agrees o k w N (geometry off on) h =
-    geometry-agrees N _≡_ off on (ap (geometryAfter off on) (N .settings .geometry)) (ap (λ (g : ℕ). relit f3dex2 g (geometryAfter off on g)) (sym (N .settings .geometry)))
+    geometry-agrees N _≡_ off on (ap (geometryAfter off on) (N .modes .settings .geometry)) (ap (λ (g : ℕ). relit f3dex2 g (geometryAfter off on g)) (sym (N .modes .settings .geometry)))
 agrees o k w N (texture tile level on sc tc) h = texture-agrees N tile level on sc tc h
 agrees o k w N (fog multiplier offset) h = fog-agrees N multiplier offset
 agrees o k w N (number bytes) h = number-agrees N bytes

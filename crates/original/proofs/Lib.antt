@@ -3,6 +3,7 @@ pub mod Alike
 pub mod Small
 pub mod Seeds
 pub mod Stacks
+pub mod Nears
 pub mod Settings
 pub mod Combined
 pub mod Views

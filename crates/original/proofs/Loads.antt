@@ -1,7 +1,7 @@
 -- Load of the two sides. Assumes nothing.
 use mathlib.Core.Path.{_≡_, refl, sym, ap, ap₂, _∙_, subst}
 use mathlib.Core.Logic.{_≢_, _⊎_, inl, ⊎-elim}
-use Prim.Native.Nat.{ℕ, zero, suc, _+_, _-_, _*_, _≤_, _<_}
+use Prim.Native.Nat.{ℕ, _+_, _-_, _*_, _≤_, _<_}
 use native.Mathlib.Omega.{arith}
 use mathlib.Core.Bool.{Bool, true, false, not, cond, false≢true}
 use mathlib.Core.List.{List, [], _∷_, _++_, map}
@@ -11,6 +11,7 @@ use lib.Dec.{eqb}
 use lib.Ieee.{Float, nan, eq}
 use borrow.Author.Tests.{lt-ltb}
 use Rattle.areas.specs.Area.{matches, Wide}
+use Rattle.areas.specs.Widths.{fogWidth}
 use Rattle.layout.specs.declared.records.Vertex.{Vertex}
 use Rattle.matrix.specs.Math.{at, rows, laid}
 use Rattle.decide.specs.Append.{final}
@@ -38,20 +39,13 @@ use Rattle.original.specs.Domain.{Data, Agrees}
 use Rattle.original.proofs.Alike.{has-lighting, has-fog, texgen-same, pair-same, last-final, three-is}
 use Rattle.original.proofs.Readers.{tc-same, tg-same}
 use Rattle.original.proofs.Small.{one-never}
-use Rattle.original.proofs.Views.{ends-same, last-number, last-since, meets-more, some-rust}
-use Rattle.original.proofs.Modifies.{fours-snoc, length-fours, snoc-pairs}
+use Rattle.original.proofs.Views.{ends-same, last-number, last-since, meets-more, some-rust, fours-at, fours-snoc, length-fours, snoc-pairs}
 use Rattle.original.proofs.RowsOf.{rows-count}
 use Rattle.original.proofs.Stacks.{top-same, laid-again}
 use Rattle.original.proofs.Settles.{cond-true, cond-false, prepared, lights-after, light-table-after, looking-after, look-table-after, fog-number, fog-after, fog-wide}
 use Rattle.original.proofs.Vertexes.{ShareSame, slots-filled, rows-filled}
 
 -- ---- scales
-
-fours-at : (cs gs : List (List Float)) (i : ℕ) → length cs ≡ length gs → i < length cs → getD (fours cs gs) i [] ≡ getD cs i [] ++ getD gs i []
-fours-at [] gs i h k = absurd (omega arith)
-fours-at (x ∷ cs) [] i h k = absurd (omega arith)
-fours-at (x ∷ cs) (y ∷ gs) zero h k = refl
-fours-at (x ∷ cs) (y ∷ gs) (suc i) h k = fours-at cs gs i (omega arith) (omega arith)
 
 -- the entry that both work out
 pub scale-entry : (sc tc : ℕ) → sc < 65536 → tc < 65536 → scaleEntry sc tc ≡ (tc-scale sc ∷ tc-scale tc ∷ []) ++ (tg-scale sc ∷ tg-scale tc ∷ [])
@@ -86,7 +80,7 @@ module _ {a b u : ℕ} {t : List (List Float)} {x : Texcoords} (S : ScaleSame a 
   last-four =
       ends-same (S .table)
       ∙ ap (λ (n : ℕ). getD (fours cs gs) (n - 1) []) (length-fours cs gs (S .beside))
-      ∙ fours-at cs gs (length cs - 1) (S .beside) (omega (arith, some-scale))
+      ∙ fours-at cs gs (S .beside) (length cs - 1)
 
   some-port : 0 < length t
   some-port =
@@ -165,12 +159,12 @@ module _ {X : ℕ → List (List Float) → Texcoords → Type 0} {R : List Row 
 
   matrices-then : MatrixSame (k .state .depth) (k .state .stack) (k .state .projection) (d .combined) (edit (onlyIf (d .newmatrix) (d .combined ∷ [])) (k .matrices .used)) m
   unfolding settled
-  matrices-then = prepared (N .matrices) (k .state .defined) (sym (N .defined))
+  matrices-then = prepared (N .space .matrices) (k .state .defined) (sym (N .space .defined))
 
   -- the mark stays
   mark-then : k .state .defined ≡ m .mvp-valid
   unfolding prepare-vertex
-  mark-then = N .defined ∙ go (w .rsp .matrices .mvp-valid) refl
+  mark-then = N .space .defined ∙ go (w .rsp .matrices .mvp-valid) refl
     where
       go : (b : Bool) → w .rsp .matrices .mvp-valid ≡ b → w .rsp .matrices .mvp-valid ≡ prepare-vertex (w .rsp .matrices) .mvp-valid
       go true e = sym (ap (λ (n : Matrices). n .mvp-valid) (cond-true (w .rsp .matrices .mvp-valid) (w .rsp .matrices) _ e))
@@ -181,31 +175,31 @@ module _ {X : ℕ → List (List Float) → Texcoords → Type 0} {R : List Row 
   top-then = ap laid (top-same matrices-then) ∙ laid-again (mv-top m)
 
   lit-same : lit f3dex2 (k .state .geometry) ≡ has (w .rsp .geom) g-lighting
-  lit-same = ap (lit f3dex2) (N .settings .geometry) ∙ sym (has-lighting (w .rsp .geom))
+  lit-same = ap (lit f3dex2) (N .modes .settings .geometry) ∙ sym (has-lighting (w .rsp .geom))
 
   mode-same : texgenMode f3dex2 (k .state .geometry) ≡ texgen-of (has (w .rsp .geom) g-lighting) (w .rsp .geom)
-  mode-same = ap (texgenMode f3dex2) (N .settings .geometry) ∙ sym (texgen-same (w .rsp .geom))
+  mode-same = ap (texgenMode f3dex2) (N .modes .settings .geometry) ∙ sym (texgen-same (w .rsp .geom))
 
   foggy-same : flag (f3dex2 .fog) (k .state .geometry) ≡ has (w .rsp .geom) g-fog-geom
-  foggy-same = ap (flag (f3dex2 .fog)) (N .settings .geometry) ∙ sym (has-fog (w .rsp .geom))
+  foggy-same = ap (flag (f3dex2 .fog)) (N .modes .settings .geometry) ∙ sym (has-fog (w .rsp .geom))
 
   light-count : k .state .counts .lights ≡ length (w .scene .lights-table)
-  light-count = sym (N .count .lights) ∙ ap length (N .recorded .light-table) ∙ length-map (w .scene .lights-table) joined
+  light-count = sym (N .count .lights) ∙ ap length (N .held .recorded .light-table) ∙ length-map (w .scene .lights-table) joined
 
   look-count : k .state .counts .lookats ≡ length (w .scene .lookat-table)
-  look-count = sym (N .count .lookats) ∙ ap length (N .recorded .lookat-table) ∙ length-map (w .scene .lookat-table) joined
+  look-count = sym (N .count .lookats) ∙ ap length (N .held .recorded .lookat-table) ∙ length-map (w .scene .lookat-table) joined
 
   lights-now : LightsSame (lightsThen d (k .state)) (lights-then (has (w .rsp .geom) g-lighting) m (length (w .scene .lights-table)) (w .rsp .lighting))
   unfolding settled
-  lights-now = rw (← lit-same) (lights-after (N .lights) m (laid (modelTop (k .state))) top-then (lit f3dex2 (k .state .geometry)) (k .state .counts .lights) (length (w .scene .lights-table)) light-count)
+  lights-now = rw (← lit-same) (lights-after (N .modes .lights) m (laid (modelTop (k .state))) top-then (lit f3dex2 (k .state .geometry)) (k .state .counts .lights) (length (w .scene .lights-table)) light-count)
 
   looking-now : LookSame (lookatThen d (k .state)) (looking-then (texgen-of (has (w .rsp .geom) g-lighting) (w .rsp .geom)) m (length (w .scene .lookat-table)) (w .rsp .looking))
   unfolding settled
-  looking-now = rw (← mode-same) (looking-after (N .lookat) m (laid (modelTop (k .state))) top-then (texgenMode f3dex2 (k .state .geometry)) (k .state .counts .lookats) (length (w .scene .lookat-table)) look-count)
+  looking-now = rw (← mode-same) (looking-after (N .modes .lookat) m (laid (modelTop (k .state))) top-then (texgenMode f3dex2 (k .state .geometry)) (k .state .counts .lookats) (length (w .scene .lookat-table)) look-count)
 
   -- the texture settings that both read
   entry-same : scaleEntry (k .state .texture .sc) (k .state .texture .tc) ≡ scaleEntry (w .rsp .texture-state .sc) (w .rsp .texture-state .tc)
-  entry-same = rw (N .settings .texture) refl
+  entry-same = rw (N .modes .settings .texture) refl
 
   scales-now : Scaled (o .port3) (o .rust3) (k .state .unit) (edit (onlyIf (d .newscale) (d .scales ∷ [])) (k .scales .used)) (texcoords-then (w .rsp .texture-state) (w .rsp .texcoords))
   unfolding settled
@@ -221,7 +215,7 @@ module _ {X : ℕ → List (List Float) → Texcoords → Type 0} {R : List Row 
 
   fog-then : pick (d .foggy) (d .fogat + 1) 0 ≡ cond (has (w .rsp .geom) g-fog-geom) (position (w .scene .fog-table) (w .fog-mul) (w .fog-offset) + 1) 0
   unfolding settled
-  fog-then = rw (N .settings .fogmul, N .settings .fogoff, N .recorded .fog-table, foggy-same) (fog-number (w .scene .fog-table) (N .recorded .fog-pairs) (w .fog-mul) (w .fog-offset) (has (w .rsp .geom) g-fog-geom))
+  fog-then = rw (N .modes .settings .fogmul, N .modes .settings .fogoff, N .held .recorded .fog-table, foggy-same) (fog-number (w .scene .fog-table) (N .held .recorded .fog-pairs) (w .fog-mul) (w .fog-offset) (has (w .rsp .geom) g-fog-geom))
 
   -- one of two by a test, as each side says it
   pick-cond : {A : Type 0} (b : Bool) (p q : A) → pick b p q ≡ cond b p q
@@ -241,14 +235,14 @@ module _ {X : ℕ → List (List Float) → Texcoords → Type 0} {R : List Row 
         viewport = view-number;
         scale = scale-number;
         light = pick-cond (d .lit) (lightsThen d (k .state) .first) 0 ∙ ap₂ (λ (b : Bool) (n : ℕ). cond b n 0) lit-then (lights-now .first);
-        lights = pick-cond (d .lit) (k .state .lights .number + 1) 0 ∙ ap₂ (λ (b : Bool) (n : ℕ). cond b (n + 1) 0) lit-then (N .lights .number);
+        lights = pick-cond (d .lit) (k .state .lights .number + 1) 0 ∙ ap₂ (λ (b : Bool) (n : ℕ). cond b (n + 1) 0) lit-then (N .modes .lights .number);
         texgen = mode-then;
         fog = fog-then;
         lookat = pick-cond (eqb (d .texgen) 0) 0 (lookatThen d (k .state) .place) ∙ cond-not (eqb (d .texgen) 0) 0 (lookatThen d (k .state) .place) ∙ ap₂ (λ (g n : ℕ). cond (not (eqb g 0)) n 0) mode-then (looking-now .place);
-        since2 = rw (← (N .count .viewports)) (last-since (N .view .table));
+        since2 = rw (← (N .count .viewports)) (last-since (N .space .view .table));
         since3 = rw (← (edit-counted (onlyIf (d .newscale) (d .scales ∷ [])) (k .scales .used) (k .state .counts .scales) (N .count .scales))) (last-since (scales-now .same .table));
-        zscale = ap (λ (v : List Float). at v 2) (N .view .now) ∙ at-2 (w .rsp .viewports .vp-scale) (w .rsp .viewports .vp-trans) (N .view .scale);
-        ztranslation = ap (λ (v : List Float). at v 5) (N .view .now) ∙ at-5 (w .rsp .viewports .vp-scale) (w .rsp .viewports .vp-trans) (N .view .scale);
+        zscale = ap (λ (v : List Float). at v 2) (N .space .view .now) ∙ at-2 (w .rsp .viewports .vp-scale) (w .rsp .viewports .vp-trans) (N .space .view .scale);
+        ztranslation = ap (λ (v : List Float). at v 5) (N .space .view .now) ∙ at-5 (w .rsp .viewports .vp-scale) (w .rsp .viewports .vp-trans) (N .space .view .scale);
       }
     where
       matrix-number : counted (onlyIf (d .newmatrix) (d .combined ∷ [])) (k .state .counts .matrices) - 1 ≡ m .cur-mvp-index
@@ -259,9 +253,9 @@ module _ {X : ℕ → List (List Float) → Texcoords → Type 0} {R : List Row 
       view-number : over (o .port2) (o .rust2) (k .state .counts .viewports - 1) ≡ w .rsp .viewports .cur-viewport-index
       view-number =
           ap (λ (n : ℕ). over (o .port2) (o .rust2) (n - 1)) (sym (N .count .viewports))
-          ∙ sym (last-number (N .view .table))
+          ∙ sym (last-number (N .space .view .table))
           ∙ ap (λ (n : ℕ). n - 1) (length-map (w .rsp .viewports .viewport-table) joined)
-          ∙ sym (N .view .current)
+          ∙ sym (N .space .view .current)
 
       scale-number : over (o .port3) (o .rust3) (counted (onlyIf (d .newscale) (d .scales ∷ [])) (k .state .counts .scales) - 1) ≡ texcoords-then (w .rsp .texture-state) (w .rsp .texcoords) .cur-texcoord-index
       scale-number =
@@ -288,7 +282,7 @@ module _ {X : ℕ → List (List Float) → Texcoords → Type 0} {R : List Row 
   slots-now =
       rw (← row-count)
       (slots-filled o (sharedBy d (k .state)) x shared-same (rows (d .combined) 0) matrix-read bytes I count at-byte first (k .state .counts .rows) (settledState d (k .state)) (w .rsp .slots) fits
-      (record { row = N .slots .row; loaded = N .slots .loaded; drawn = N .slots .drawn; coded = N .slots .coded; code = N .slots .code; deep = N .slots .deep; z = N .slots .z }))
+      (N .held .slots))
 
   rows-now : RowsSame o (k .rows .used ++ map (vertexRow (sharedBy d (k .state))) vs) (after .scene .columns)
   unfolding set-vertex sharing-of
@@ -296,20 +290,20 @@ module _ {X : ℕ → List (List Float) → Texcoords → Type 0} {R : List Row 
 
   light-table-now : edit (loadEdits d (k .state) vs .lights) (k .lights .used) ≡ map joined (after .scene .lights-table)
   unfolding set-vertex loadEdits settled
-  light-table-now = rw (← lit-same) (light-table-after (N .lights) m (laid (modelTop (k .state))) top-then (lit f3dex2 (k .state .geometry)) (k .lights .used) (w .scene .lights-table) (N .recorded .light-table))
+  light-table-now = rw (← lit-same) (light-table-after (N .modes .lights) m (laid (modelTop (k .state))) top-then (lit f3dex2 (k .state .geometry)) (k .lights .used) (w .scene .lights-table) (N .held .recorded .light-table))
 
   look-table-now : edit (loadEdits d (k .state) vs .lookats) (k .lookats .used) ≡ map joined (after .scene .lookat-table)
   unfolding set-vertex loadEdits settled
-  look-table-now = rw (← mode-same) (look-table-after (N .lookat) m (laid (modelTop (k .state))) top-then (texgenMode f3dex2 (k .state .geometry)) (k .lookats .used) (w .scene .lookat-table) (N .recorded .lookat-table))
+  look-table-now = rw (← mode-same) (look-table-after (N .modes .lookat) m (laid (modelTop (k .state))) top-then (texgenMode f3dex2 (k .state .geometry)) (k .lookats .used) (w .scene .lookat-table) (N .held .recorded .lookat-table))
 
   fog-table-now : edit (loadEdits d (k .state) vs .fogs) (k .fogs .used) ≡ after .scene .fog-table
   unfolding set-vertex loadEdits settled
   fog-table-now =
-      rw (N .settings .fogmul, N .settings .fogoff, N .recorded .fog-table, foggy-same) (fog-after (w .scene .fog-table) (N .recorded .fog-pairs) (w .fog-mul) (w .fog-offset) (has (w .rsp .geom) g-fog-geom))
+      rw (N .modes .settings .fogmul, N .modes .settings .fogoff, N .held .recorded .fog-table, foggy-same) (fog-after (w .scene .fog-table) (N .held .recorded .fog-pairs) (w .fog-mul) (w .fog-offset) (has (w .rsp .geom) g-fog-geom))
 
-  fog-pairs-now : Wide 2 (after .scene .fog-table)
+  fog-pairs-now : Wide fogWidth (after .scene .fog-table)
   unfolding set-vertex
-  fog-pairs-now = fog-wide (w .scene .fog-table) (N .recorded .fog-pairs) (w .fog-mul) (w .fog-offset) (has (w .rsp .geom) g-fog-geom)
+  fog-pairs-now = fog-wide (w .scene .fog-table) (N .held .recorded .fog-pairs) (w .fog-mul) (w .fog-offset) (has (w .rsp .geom) g-fog-geom)
 
   -- the state with its slots apart
   abbrev apart : State
@@ -320,22 +314,15 @@ module _ {X : ℕ → List (List Float) → Texcoords → Type 0} {R : List Row 
   loaded =
       record {
         count = counted-then k (k .state) (loadEdits d (k .state) vs) (N .count);
-        settings = N .settings;
-        matrices = matrices-then;
-        defined = mark-then;
-        view = N .view;
-        lights = lights-now;
-        lookat = looking-now;
-        slots = slots-now;
-        scales = scales-now .same;
-        rows = rows-now;
-        recorded = record { light-table = light-table-now; lookat-table = look-table-now; fog-table = fog-table-now; fog-pairs = fog-pairs-now; indices = N .recorded .indices; runs = N .recorded .runs };
+        modes = record { settings = N .modes .settings; lights = lights-now; lookat = looking-now };
+        space = record { matrices = matrices-then; defined = mark-then; view = N .space .view };
+        held = record { slots = slots-now; scales = scales-now .same; rows = rows-now; recorded = record { light-table = light-table-now; lookat-table = look-table-now; fog-table = fog-table-now; fog-pairs = fog-pairs-now; indices = N .held .recorded .indices; runs = N .held .recorded .runs } };
       }
 
   load-owes : Agrees (Same o) (pick (k .state .defined) 0 1 ∷ []) (enter then (loadEdits d (k .state) vs) k) (execute (load first count bytes at-byte) w)
   unfolding execute
   load-owes = (
-    ap (λ (n : ℕ). n ∷ []) (pick-cond (k .state .defined) 0 1 ∙ ap (λ (b : Bool). cond b 0 1) (N .defined)),
+    ap (λ (n : ℕ). n ∷ []) (pick-cond (k .state .defined) 0 1 ∙ ap (λ (b : Bool). cond b 0 1) (N .space .defined)),
     subst (λ (u : State). Same o (enter u (loadEdits d (k .state) vs) k) after) (sym (filled-is vs (settledState d (k .state)) (rows (d .combined) 0) (sharedBy d (k .state)) first (k .state .counts .rows))) loaded,
   )
 
@@ -351,4 +338,4 @@ load-scaled {X} {R} {o} {k} {w} N sc rs first count bytes p I =
 -- a load of the domain
 pub load-agrees : {o : Offsets} {k : Book} {w : World} → Same o k w → (first count : ℕ) (bytes : List ℕ) (at : ℕ) → Data bytes
     → Accepted (λ vs t e. Agrees (Same o) vs (enter t e k) (execute (load first count bytes at) w)) (plan f3dex2 256 (load first count bytes at) k)
-load-agrees {o} {k} {w} N first count bytes p I = load-scaled N (scales-loaded (N .scales) (w .rsp .texture-state) (N .settings .small .0) (N .settings .small .1)) (N .rows) first count bytes p I
+load-agrees {o} {k} {w} N first count bytes p I = load-scaled N (scales-loaded (N .held .scales) (w .rsp .texture-state) (N .modes .settings .small .0) (N .modes .settings .small .1)) (N .held .rows) first count bytes p I

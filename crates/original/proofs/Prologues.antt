@@ -35,9 +35,9 @@ load-met a b slot bytes at cs k w N h d =
     let s = w .rsp .texture-state in
     let o : Offsets = record { port2 = a; rust2 = b; port3 = 0; rust3 = scale-before (w .rsp .texture-state) } in
     let sc : Scaled 0 (scale-before (w .rsp .texture-state)) (k .state .unit) (edit (onlyIf (not (sameScale (k .scales .used) (scaleEntry (w .rsp .texture-state .sc) (w .rsp .texture-state .tc)))) (scaleEntry (w .rsp .texture-state .sc) (w .rsp .texture-state .tc) ∷ [])) (k .scales .used)) (texcoords-then (w .rsp .texture-state) (w .rsp .texcoords)) =
-    rw (N .scales .0, N .scales .1, N .scales .2) (scales-begun (w .rsp .texture-state) (N .settings .small .0) (N .settings .small .1)) in
+    rw (N .held .scales .0, N .held .scales .1, N .held .scales .2) (scales-begun (w .rsp .texture-state) (N .modes .settings .small .0) (N .modes .settings .small .1)) in
     follows-more Met (Same o) (load slot 1 bytes at) cs k w
-    (stepped (Same o) (load slot 1 bytes at) k w (load-scaled N sc (rows-begun o (k .rows .used) (w .scene .columns) (N .rows)) slot 1 bytes at (h .0)) (d .0))
+    (stepped (Same o) (load slot 1 bytes at) k w (load-scaled N sc (rows-begun o (k .rows .used) (w .scene .columns) (N .held .rows)) slot 1 bytes at (h .0)) (d .0))
     (λ v M. met o cs (turn (stage (load slot 1 bytes at) k) k) v (follows o cs (turn (stage (load slot 1 bytes at) k) k) v M (h .1) (d .1)))
 
 -- ---- the steps before it, last to first
@@ -118,7 +118,7 @@ from-viewport p rest k w N h d =
     (stepped _ _ k w (viewport-begins N (p .viewport .bytes) (p .viewport .at) (h .0)) (d .0))
     (λ v M.
     let k₁ : Book = turn (stage (viewport (p .viewport .bytes) (p .viewport .at)) k) k in
-    let g = geometry-begins (k₁ .state .geometry) (v .rsp .geom) (p .geometry) (M .settings .geometry) in
+    let g = geometry-begins (k₁ .state .geometry) (v .rsp .geom) (p .geometry) (M .modes .settings .geometry) in
     follows-more Met (Set a b) (geometry 0 (p .geometry)) _ k₁ v
     (stepped (Set a b) (geometry 0 (p .geometry)) k₁ v (geometry-agrees M _≡_ 0 (p .geometry) (g .0) (g .1)) (d .1 .0))
     (λ u T. rest-settings a b p rest (turn (stage (geometry 0 (p .geometry)) k₁) k₁) u T (h .1 .1) (d .1 .1)))

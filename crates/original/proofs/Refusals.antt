@@ -99,7 +99,7 @@ either-first false false c e = absurd (false≢true e)
 
 module _ {o : Offsets} {k : Book} {w : World} (N : Same o k w) where
   loaded-is : (i : ℕ) → getD (w .rsp .slots .loaded) i false ≡ getD (k .state .loaded) i false
-  loaded-is i = ap (λ (l : List Bool). getD l i false) (sym (N .slots .loaded))
+  loaded-is i = ap (λ (l : List Bool). getD l i false) (sym (N .held .slots .loaded))
 
   -- an option under a cleared mark
   absent : {A : Type 0} (l : List (Option A)) (i : ℕ) → getD (map isSome l) i false ≡ false → getD l i none ≡ none
@@ -138,9 +138,9 @@ module _ {o : Offsets} {k : Book} {w : World} (N : Same o k w) where
       (λ e. rw (loaded-is i ∙ e) (refl, refl))
       (λ e.
       re-unless (Q (suc n) i code) (getD (k .state .coded) i false) 4 (i ∷ []) _
-      (λ f. rw (loaded-is i ∙ e, absent (w .rsp .slots .clip-codes) i (ap (λ (l : List Bool). getD l i false) (sym (N .slots .coded)) ∙ f)) (refl, refl))
+      (λ f. rw (loaded-is i ∙ e, absent (w .rsp .slots .clip-codes) i (ap (λ (l : List Bool). getD l i false) (sym (N .held .slots .coded)) ∙ f)) (refl, refl))
       (λ f.
-      let t = there (w .rsp .slots .clip-codes) i (ap (λ (l : List Bool). getD l i false) (sym (N .slots .coded)) ∙ f) in
+      let t = there (w .rsp .slots .clip-codes) i (ap (λ (l : List Bool). getD l i false) (sym (N .held .slots .coded)) ∙ f) in
       refused-map (Q n (i + 1) (bitAnd code (t .value))) (Q (suc n) i code) (λ m us h. rw (loaded-is i ∙ e, t .is) h) _ (codes-refused n (i + 1) (bitAnd code (t .value)) vs)))
 
   cull-refused : (first last : ℕ) → Refused (Too (cull first last)) (stage (cull first last) k)
@@ -173,7 +173,7 @@ module _ {o : Offsets} {k : Book} {w : World} (N : Same o k w) where
       re-unless _ (ltb slot 256 && getD (k .state .loaded) slot false) 3 (slot ∷ []) _ (λ e _ _. rw (unheld slot ∙ ap not e) (refl, refl))
       (λ e.
       re-unless _ (getD (k .state .deep) slot false) 4 (slot ∷ []) _
-      (λ f _ _. rw (unheld slot ∙ ap not e, absent (w .rsp .slots .screen-z) slot (ap (λ (l : List Bool). getD l slot false) (sym (N .slots .deep)) ∙ f)) (refl, refl))
+      (λ f _ _. rw (unheld slot ∙ ap not e, absent (w .rsp .slots .screen-z) slot (ap (λ (l : List Bool). getD l slot false) (sym (N .held .slots .deep)) ∙ f)) (refl, refl))
       (λ _. re-does _ _ _ _)))
 
   -- no change is asked for; or one is, of a slot that is not held

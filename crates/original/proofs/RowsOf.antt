@@ -1,36 +1,15 @@
 -- Rows of the two sides: one more, and one changed. Assumes nothing.
-use mathlib.Core.Path.{_≡_, sym, ap, _∙_}
-use Prim.Native.Nat.{ℕ, zero, suc, _+_, _-_, _<_, _≤_}
+use mathlib.Core.Path.{_≡_, ap, _∙_}
+use Prim.Native.Nat.{ℕ, zero, suc, _<_}
 use native.Mathlib.Omega.{arith}
-use mathlib.Core.List.{List, [], _∷_, _++_}
+use mathlib.Core.List.{List, [], _∷_, _++_, map}
 use lib.ListN.{length, getD, set, length-map}
 use Rattle.stage.specs.Plan.{Row}
+use Rattle.finished.specs.Shown.{noRow}
 use Rattle.original.specs.Drawing.{Columns, Made, push, made-at}
-use Rattle.original.specs.Relation.{over, Offsets, word, float, RowsSame}
+use Rattle.original.specs.Relation.{Offsets, made-of, Since, RowsSame}
 use Rattle.original.proofs.Stacks.{getD-map, map-snoc}
 use Rattle.original.proofs.Draws.{map-set}
-
-abbrev pub noRow : Row
-noRow = record { floats = []; words = [] }
-
--- what the original holds of a row
-unfoldable pub made-of : Offsets → Row → Made
-made-of o r =
-    record {
-      pos = float 0 r ∷ float 1 r ∷ float 2 r ∷ [];
-      flags = word 0 r;
-      screen = float 5 r ∷ float 6 r ∷ float 7 r ∷ float 8 r ∷ [];
-      mtx = word 1 r;
-      viewport = over (o .port2) (o .rust2) (word 2 r);
-      st = float 3 r ∷ float 4 r ∷ [];
-      texcoord = over (o .port3) (o .rust3) (word 3 r);
-      colour = word 4 r;
-      light = word 5 r;
-      count = word 6 r;
-      texgen = word 7 r;
-      fog = word 8 r;
-      lookat = word 9 r;
-    }
 
 -- an element replaced in every list
 abbrev pub set-made : Columns → ℕ → Made → Columns
@@ -67,73 +46,22 @@ set-rows P (x ∷ rs) (suc n) r h p (suc i) k = set-rows P rs n r (λ j m. h (su
 
 module _ {o : Offsets} {rs : List Row} {c : Columns} (S : RowsSame o rs c) where
   -- a row more
-  pub row-pushed : (r : Row) → length (r .floats) ≡ 9 → length (r .words) ≡ 10 → o .port2 ≤ word 2 r → o .port3 ≤ word 3 r → RowsSame o (rs ++ r ∷ []) (push c (made-of o r))
-  unfolding push made-of
-  row-pushed r f w a b =
-      record {
-        nine = snoc-rows (λ (x : Row). length (x .floats) ≡ 9) rs r (S .nine) f;
-        ten = snoc-rows (λ (x : Row). length (x .words) ≡ 10) rs r (S .ten) w;
-        since2 = snoc-rows (λ (x : Row). o .port2 ≤ word 2 x) rs r (S .since2) a;
-        since3 = snoc-rows (λ (x : Row). o .port3 ≤ word 3 x) rs r (S .since3) b;
-        raw-pos = rw (S .raw-pos) (sym (map-snoc _ rs r));
-        modify-flags = rw (S .modify-flags) (sym (map-snoc _ rs r));
-        modify-screen = rw (S .modify-screen) (sym (map-snoc _ rs r));
-        mtx-index = rw (S .mtx-index) (sym (map-snoc _ rs r));
-        viewport-index = rw (S .viewport-index) (sym (map-snoc _ rs r));
-        raw-st = rw (S .raw-st) (sym (map-snoc _ rs r));
-        texcoord-index = rw (S .texcoord-index) (sym (map-snoc _ rs r));
-        cn = rw (S .cn) (sym (map-snoc _ rs r));
-        light-index = rw (S .light-index) (sym (map-snoc _ rs r));
-        light-count = rw (S .light-count) (sym (map-snoc _ rs r));
-        texgen-mode = rw (S .texgen-mode) (sym (map-snoc _ rs r));
-        fog = rw (S .fog) (sym (map-snoc _ rs r));
-        lookat-index = rw (S .lookat-index) (sym (map-snoc _ rs r));
-      }
+  pub row-pushed : (r : Row) → Since o r → RowsSame o (rs ++ r ∷ []) (push c (made-of o r))
+  unfolding push
+  row-pushed r h = record { each = snoc-rows (Since o) rs r (S .each) h; columns = rw (S .columns) (simp map-snoc) }
 
   -- a row replaced
-  pub row-set : (n : ℕ) (r : Row) → length (r .floats) ≡ 9 → length (r .words) ≡ 10 → o .port2 ≤ word 2 r → o .port3 ≤ word 3 r → RowsSame o (set rs n r) (set-made c n (made-of o r))
-  unfolding made-of
-  row-set n r f w a b =
-      record {
-        nine = set-rows (λ (x : Row). length (x .floats) ≡ 9) rs n r (S .nine) f;
-        ten = set-rows (λ (x : Row). length (x .words) ≡ 10) rs n r (S .ten) w;
-        since2 = set-rows (λ (x : Row). o .port2 ≤ word 2 x) rs n r (S .since2) a;
-        since3 = set-rows (λ (x : Row). o .port3 ≤ word 3 x) rs n r (S .since3) b;
-        raw-pos = rw (S .raw-pos) (sym (map-set _ rs n r));
-        modify-flags = rw (S .modify-flags) (sym (map-set _ rs n r));
-        modify-screen = rw (S .modify-screen) (sym (map-set _ rs n r));
-        mtx-index = rw (S .mtx-index) (sym (map-set _ rs n r));
-        viewport-index = rw (S .viewport-index) (sym (map-set _ rs n r));
-        raw-st = rw (S .raw-st) (sym (map-set _ rs n r));
-        texcoord-index = rw (S .texcoord-index) (sym (map-set _ rs n r));
-        cn = rw (S .cn) (sym (map-set _ rs n r));
-        light-index = rw (S .light-index) (sym (map-set _ rs n r));
-        light-count = rw (S .light-count) (sym (map-set _ rs n r));
-        texgen-mode = rw (S .texgen-mode) (sym (map-set _ rs n r));
-        fog = rw (S .fog) (sym (map-set _ rs n r));
-        lookat-index = rw (S .lookat-index) (sym (map-set _ rs n r));
-      }
+  pub row-set : (n : ℕ) (r : Row) → Since o r → RowsSame o (set rs n r) (set-made c n (made-of o r))
+  row-set n r h = record { each = set-rows (Since o) rs n r (S .each) h; columns = rw (S .columns) (simp map-set) }
 
   -- what the original reads of a row
   pub row-read : (n : ℕ) → n < length rs → made-at c n ≡ made-of o (getD rs n noRow)
-  unfolding made-at made-of
-  row-read n h = λ i.
-      record {
-        pos = (ap (λ l. getD l n []) (S .raw-pos) ∙ getD-map _ rs n noRow [] h) i;
-        flags = (ap (λ l. getD l n 0) (S .modify-flags) ∙ getD-map _ rs n noRow 0 h) i;
-        screen = (ap (λ l. getD l n []) (S .modify-screen) ∙ getD-map _ rs n noRow [] h) i;
-        mtx = (ap (λ l. getD l n 0) (S .mtx-index) ∙ getD-map _ rs n noRow 0 h) i;
-        viewport = (ap (λ l. getD l n 0) (S .viewport-index) ∙ getD-map _ rs n noRow 0 h) i;
-        st = (ap (λ l. getD l n []) (S .raw-st) ∙ getD-map _ rs n noRow [] h) i;
-        texcoord = (ap (λ l. getD l n 0) (S .texcoord-index) ∙ getD-map _ rs n noRow 0 h) i;
-        colour = (ap (λ l. getD l n 0) (S .cn) ∙ getD-map _ rs n noRow 0 h) i;
-        light = (ap (λ l. getD l n 0) (S .light-index) ∙ getD-map _ rs n noRow 0 h) i;
-        count = (ap (λ l. getD l n 0) (S .light-count) ∙ getD-map _ rs n noRow 0 h) i;
-        texgen = (ap (λ l. getD l n 0) (S .texgen-mode) ∙ getD-map _ rs n noRow 0 h) i;
-        fog = (ap (λ l. getD l n 0) (S .fog) ∙ getD-map _ rs n noRow 0 h) i;
-        lookat = (ap (λ l. getD l n 0) (S .lookat-index) ∙ getD-map _ rs n noRow 0 h) i;
-      }
+  unfolding made-at
+  row-read n h = rw (S .columns) (simp read)
+    where
+      read : {A : Type 0} (g : Row → A) (e : A) → getD (map g rs) n e ≡ g (getD rs n noRow)
+      read g e = getD-map g rs n noRow e h
 
   -- as many
   pub rows-count : length (c .raw-pos) ≡ length rs
-  rows-count = ap length (S .raw-pos) ∙ length-map rs _
+  rows-count = ap (λ (x : Columns). length (x .raw-pos)) (S .columns) ∙ length-map rs _

@@ -15,6 +15,7 @@ use lib.Ieee.Fits.{up-pos, down-pos, round-fits, div-fits}
 use lib.Ieee.Exact.{HasValue, round-exact}
 use borrow.Author.Tests.{eqb-true}
 use Rattle.areas.specs.Area.{matches}
+use Rattle.areas.specs.Widths.{viewportWidth}
 use Rattle.numbers.specs.Ratio.{below0, ofRatio}
 use Rattle.numbers.proofs.Values.{value-unique}
 use Rattle.numbers.proofs.Quotients.{round-fix}
@@ -181,7 +182,7 @@ half-small : (b : List ℕ) (i : ℕ) → Bytes b → natAbs (signedAt b i) ≤ 
 half-small b i hb = le-trans (natAbs-le (signedAt b i) (signed-below 16 (halfAt b i) refl (half-below b i hb))) (lit≤ tt)
 
 -- a viewport that equals six zeros is six zeros
-pub zeros-entry : (b : List ℕ) (at : ℕ) → Bytes b → matches eq (zeros 6) (tripleAt b at ++ tripleAt b (at + 8)) ≡ true → tripleAt b at ++ tripleAt b (at + 8) ≡ zeros 6
+pub zeros-entry : (b : List ℕ) (at : ℕ) → Bytes b → matches eq (zeros viewportWidth) (tripleAt b at ++ tripleAt b (at + 8)) ≡ true → tripleAt b at ++ tripleAt b (at + 8) ≡ zeros 6
 zeros-entry b at hb e =
     entry-back b at f0 f0 f0
     (λ i. seed-zero (signedAt b i) 2 (half-small b i hb) (lit≤ tt))

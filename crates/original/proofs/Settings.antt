@@ -1,6 +1,6 @@
 -- Commands that change no table: texture, fog, geometry mode, light number, light, lookat, microcode change, and the two tests. Assumes nothing.
 use mathlib.Core.Path.{_≡_, refl, sym, ap, _∙_}
-use Prim.Native.Nat.{ℕ, zero, suc, _+_, _-_, _/_, _≤_, _<_, min}
+use Prim.Native.Nat.{ℕ, zero, suc, _+_, _/_, _≤_, _<_, min}
 use native.Mathlib.Omega.{arith}
 use mathlib.Core.Bool.{Bool, true, false, _||_, cond}
 use mathlib.Core.List.{List, [], _∷_, map}
@@ -18,9 +18,8 @@ use Rattle.matrix.specs.Math as math
 use Rattle.stage.specs.declared.Lights.{Lights}
 use Rattle.stage.specs.declared.Lookat.{Lookat}
 use Rattle.stage.specs.declared.settings.Microcode.{Microcode}
-use Rattle.stage.specs.declared.Texture.{Texture}
-use Rattle.stage.specs.With.{withGeometry, withFog, withTexture, withLights, withLookat, marked, withNumber, withAmbient, withColumns, withAxes}
-use Rattle.stage.specs.Plan.{Row, untouched}
+use Rattle.stage.specs.With.{marked, withNumber, withAmbient, withColumns, withAxes}
+use Rattle.stage.specs.Plan.{Row}
 use Rattle.stage.specs.Sound.{stateSound}
 use Rattle.stage.specs.Matrices.{geometryPlan}
 use Rattle.stage.specs.Lights.{texturePlan, fogPlan, numberPlan, lightPlan, ambientPlan, slotPlan, lightIn, axisIn, lookatPlan, switched, microcodePlan}
@@ -28,12 +27,13 @@ use Rattle.sequence.specs.Sequence.{Command, geometry, texture, fog, number, li
 use Rattle.sequence.proofs.Turn.{enter}
 use Rattle.sequence.proofs.Accepts.{Accepted, on-does, on-unless, on-pick}
 use Rattle.original.specs.Math.{Mat4}
-use Rattle.original.specs.Rsp.{Matrices, Viewports, TextureState, Texcoords, Lighting, Looking, modify-geometry, set-num-lights, set-light, set-lookat, switch-microcode, col3, dir3}
+use Rattle.original.specs.Rsp.{Matrices, Viewports, Texcoords, Lighting, Looking, modify-geometry, set-num-lights, set-light, set-lookat, switch-microcode, col3, dir3}
 use Rattle.original.specs.Drawing.{Columns}
-use Rattle.original.specs.Walk.{World, execute, with-settings, with-version}
-use Rattle.original.specs.Relation.{MatrixSame, KeySame, LightsSame, LookSame, SlotsSame, isSome, orElse, SettingsSame, Near}
+use Rattle.original.specs.Walk.{World, execute, with-version}
+use Rattle.original.specs.Relation.{MatrixSame, KeySame, LightsSame, LookSame, SlotsSame, isSome, orElse, Near}
 use Rattle.original.specs.Domain.{Data, Agrees}
 use Rattle.original.proofs.Alike.{relit-same}
+use Rattle.original.proofs.Nears.{modes-near}
 use Rattle.original.proofs.Readers.{colour-same, direction-same}
 use Rattle.original.proofs.Small.{slotted-length, slotted-slots}
 
@@ -170,46 +170,26 @@ module _ {D : Bool → Bool → Type 0} {G : ℕ → ℕ → Type 0} {P : List F
   abbrev Owes : (Bool → Bool → Type 0) → (ℕ → ℕ → Type 0) → Command → Type 0
   Owes D′ G′ c = Accepted (λ vs t e. Agrees (Near D′ G′ P X R) vs (enter t e k) (execute c w)) (plan f3dex2 256 c k)
 
-  -- other settings, lights and lookat on both sides; all else stays
-  settings-near : {G′ : ℕ → ℕ → Type 0} {g g′ : ℕ} {a a′ b b′ : ℤ} {t : Texture} {t′ : TextureState} {l : Lights} {l′ : Lighting} {o : Lookat} {o′ : Looking}
-      → let s = withLookat (withLights (withTexture (withFog (withGeometry (k .state) g) a b) t) l) o in
-      let v : World = record { rsp = with-settings (w .rsp) g′ t′ l′ o′; fog-mul = a′; fog-offset = b′; scene = w .scene } in
-      SettingsSame G′ s v → LightsSame l l′ → LookSame o o′ → Near D G′ P X R (enter s untouched k) v
-  settings-near s l o =
-      record {
-        count = N .count;
-        settings = s;
-        matrices = N .matrices;
-        defined = N .defined;
-        view = N .view;
-        lights = l;
-        lookat = o;
-        slots = N .slots;
-        scales = N .scales;
-        rows = N .rows;
-        recorded = N .recorded;
-      }
-
   pub texture-agrees : (tile level : ℕ) (on : Bool) (sc tc : ℕ) → (sc < 65536) × (tc < 65536) → Owes D G (texture tile level on sc tc)
   unfolding plan texturePlan execute
   texture-agrees tile level on sc tc h =
       on-unless _ (stateSound (k .state)) 10 [] _
       (λ _.
-      on-does _ _ _ _ (refl, settings-near (record { microcode = N .settings .microcode; texture = refl; small = h; fogmul = N .settings .fogmul; fogoff = N .settings .fogoff; geometry = N .settings .geometry }) (N .lights) (N .lookat)))
+      on-does _ _ _ _ (refl, modes-near N (record { microcode = N .modes .settings .microcode; texture = refl; small = h; fogmul = N .modes .settings .fogmul; fogoff = N .modes .settings .fogoff; geometry = N .modes .settings .geometry }) (N .modes .lights) (N .modes .lookat)))
 
   pub fog-agrees : (multiplier offset : ℤ) → Owes D G (fog multiplier offset)
   unfolding plan fogPlan execute
   fog-agrees multiplier offset =
       on-unless _ (stateSound (k .state)) 10 [] _
       (λ _.
-      on-does _ _ _ _ (refl, settings-near (record { microcode = N .settings .microcode; texture = N .settings .texture; small = N .settings .small; fogmul = refl; fogoff = refl; geometry = N .settings .geometry }) (N .lights) (N .lookat)))
+      on-does _ _ _ _ (refl, modes-near N (record { microcode = N .modes .settings .microcode; texture = N .modes .settings .texture; small = N .modes .settings .small; fogmul = refl; fogoff = refl; geometry = N .modes .settings .geometry }) (N .modes .lights) (N .modes .lookat)))
 
   pub number-agrees : (bytes : ℕ) → Owes D G (number bytes)
   unfolding plan numberPlan execute
   number-agrees bytes =
       on-unless _ (stateSound (k .state)) 10 [] _
       (λ _.
-      on-does _ _ _ _ (refl, settings-near (N .settings) (lights-numbered bytes (k .state .lights) (w .rsp .lighting) (N .lights)) (N .lookat)))
+      on-does _ _ _ _ (refl, modes-near N (N .modes .settings) (lights-numbered bytes (k .state .lights) (w .rsp .lighting) (N .modes .lights)) (N .modes .lookat)))
 
   pub light-agrees : (slot : ℕ) (bytes : List ℕ) (at : ℕ) → Data bytes → Owes D G (light slot bytes at)
   unfolding plan lightPlan ambientPlan slotPlan lightIn lightAt execute
@@ -220,14 +200,14 @@ module _ {D : Bool → Bool → Type 0} {G : ℕ → ℕ → Type 0} {P : List F
       (λ e.
       on-unless _ (leb (at + 3) (length bytes)) 7 _ _
       (λ n.
-      on-does _ _ _ _ (refl, settings-near (N .settings) (lights-ambient bytes at I (k .state .lights) (w .rsp .lighting) (N .lights) (leb-true _ _ n) slot (numbered ∙ e)) (N .lookat))))
+      on-does _ _ _ _ (refl, modes-near N (N .modes .settings) (lights-ambient bytes at I (k .state .lights) (w .rsp .lighting) (N .modes .lights) (leb-true _ _ n) slot (numbered ∙ e)) (N .modes .lookat))))
       (λ e.
       on-unless _ (leb (at + 11) (length bytes)) 7 _ _
       (λ n.
-      on-does _ _ _ _ (refl, settings-near (N .settings) (lights-slotted bytes at I (k .state .lights) (w .rsp .lighting) (N .lights) (leb-true _ _ n) slot (numbered ∙ e)) (N .lookat)))))
+      on-does _ _ _ _ (refl, modes-near N (N .modes .settings) (lights-slotted bytes at I (k .state .lights) (w .rsp .lighting) (N .modes .lights) (leb-true _ _ n) slot (numbered ∙ e)) (N .modes .lookat)))))
     where
       numbered : eqb slot (w .rsp .lighting .num-dir) ≡ eqb slot (k .state .lights .number)
-      numbered = ap (eqb slot) (sym (N .lights .number))
+      numbered = ap (eqb slot) (sym (N .modes .lights .number))
 
   pub lookat-agrees : (slot : ℕ) (bytes : List ℕ) (at : ℕ) → Data bytes → Owes D G (lookat slot bytes at)
   unfolding plan lookatPlan axisIn execute
@@ -236,7 +216,7 @@ module _ {D : Bool → Bool → Type 0} {G : ℕ → ℕ → Type 0} {P : List F
       (λ _.
       on-unless _ (leb (at + 11) (length bytes)) 7 _ _
       (λ n.
-      on-does _ _ _ _ (refl, settings-near (N .settings) (N .lights) (lookat-slotted bytes at I (k .state .lookat) (w .rsp .looking) (N .lookat) (leb-true _ _ n) slot))))
+      on-does _ _ _ _ (refl, modes-near N (N .modes .settings) (N .modes .lights) (lookat-slotted bytes at I (k .state .lookat) (w .rsp .looking) (N .modes .lookat) (leb-true _ _ n) slot))))
 
   -- a geometry word that the two sides have in common, or one that is set whole
   pub geometry-agrees : (G′ : ℕ → ℕ → Type 0) (off on : ℕ) → G′ (geometryAfter off on (k .state .geometry)) (modify-geometry off on (w .rsp .geom))
@@ -246,7 +226,7 @@ module _ {D : Bool → Bool → Type 0} {G : ℕ → ℕ → Type 0} {P : List F
   geometry-agrees G′ off on g e =
       on-unless _ (stateSound (k .state)) 10 [] _
       (λ _.
-      on-does _ _ _ _ (refl, settings-near (record { microcode = N .settings .microcode; texture = N .settings .texture; small = N .settings .small; fogmul = N .settings .fogmul; fogoff = N .settings .fogoff; geometry = g }) (rw (relit-same (w .rsp .geom) (modify-geometry off on (w .rsp .geom)), e) (lights-relit (relit f3dex2 (k .state .geometry) (geometryAfter off on (k .state .geometry))) (k .state .lights) (w .rsp .lighting) (N .lights))) (N .lookat)))
+      on-does _ _ _ _ (refl, modes-near N (record { microcode = N .modes .settings .microcode; texture = N .modes .settings .texture; small = N .modes .settings .small; fogmul = N .modes .settings .fogmul; fogoff = N .modes .settings .fogoff; geometry = g }) (rw (relit-same (w .rsp .geom) (modify-geometry off on (w .rsp .geom)), e) (lights-relit (relit f3dex2 (k .state .geometry) (geometryAfter off on (k .state .geometry))) (k .state .lights) (w .rsp .lighting) (N .modes .lights))) (N .modes .lookat)))
 
   pub microcode-agrees : (to : Microcode) → Owes _≡_ G (microcode to)
   unfolding plan microcodePlan switched execute switch-microcode
@@ -257,16 +237,9 @@ module _ {D : Bool → Bool → Type 0} {G : ℕ → ℕ → Type 0} {P : List F
         refl,
         record {
           count = N .count;
-          settings = record { microcode = refl; texture = N .settings .texture; small = N .settings .small; fogmul = N .settings .fogmul; fogoff = N .settings .fogoff; geometry = N .settings .geometry };
-          matrices = matrices-kept;
-          defined = refl;
-          view = N .view;
-          lights = N .lights;
-          lookat = N .lookat;
-          slots = slots-cleared;
-          scales = N .scales;
-          rows = N .rows;
-          recorded = N .recorded;
+          modes = record { settings = record { microcode = refl; texture = N .modes .settings .texture; small = N .modes .settings .small; fogmul = N .modes .settings .fogmul; fogoff = N .modes .settings .fogoff; geometry = N .modes .settings .geometry }; lights = N .modes .lights; lookat = N .modes .lookat };
+          space = record { matrices = matrices-kept; defined = refl; view = N .space .view };
+          held = record { slots = slots-cleared; scales = N .held .scales; rows = N .held .rows; recorded = N .held .recorded };
         },
       ))
     where
@@ -276,7 +249,7 @@ module _ {D : Bool → Bool → Type 0} {G : ℕ → ℕ → Type 0} {P : List F
       matrices-kept : MatrixSame (k .state .depth) (k .state .stack) (k .state .projection) (k .state .combined) (k .matrices .used)
           (record { mvp-valid = false; model-stack = m .model-stack; model-stack-size = m .model-stack-size; viewproj = m .viewproj; mvp = m .mvp; mvp-table = m .mvp-table; cur-mvp-index = m .cur-mvp-index })
       matrices-kept =
-          let S = N .matrices in
+          let S = N .space .matrices in
           record {
             depth = S .depth;
             low = S .low;
@@ -295,7 +268,7 @@ module _ {D : Bool → Bool → Type 0} {G : ℕ → ℕ → Type 0} {P : List F
           (record { cache-global-index = w .rsp .slots .cache-global-index; loaded = replicate 256 false; clip-codes = replicate 256 none; screen-z = replicate 256 none; used = replicate 256 false })
       slots-cleared =
           record {
-            row = N .slots .row;
+            row = N .held .slots .row;
             loaded = refl;
             drawn = refl;
             coded = sym (map-replicate (isSome {A = ℕ}) 256 none);

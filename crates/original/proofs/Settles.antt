@@ -11,6 +11,7 @@ use lib.IntN.{ℤ}
 use lib.Ieee.{Float, eq}
 use borrow.Author.Tests.{eq-eqb}
 use Rattle.areas.specs.Area.{matches, Wide}
+use Rattle.areas.specs.Widths.{matrixWidth, fogWidth}
 use Rattle.areas.proofs.Tables.{wide-append}
 use Rattle.matrix.specs.Math as math
 use Rattle.matrix.specs.Math.{at, colTimes, times, rows, laid}
@@ -57,7 +58,7 @@ cond-false b x y e = rw e
 -- what a load has for its matrix: the combined one, or where that is undefined the product, which stays undefined
 module _ {d : ℕ} {st p c : List Float} {t : List (List Float)} {m : Matrices} (S : MatrixSame d st p c t m) where
   abbrev pub product : List Float
-  product = laid (times (rows st (16 * (d - 1))) (rows p 0))
+  product = laid (times (rows st (matrixWidth * (d - 1))) (rows p 0))
 
   abbrev pub now : Bool → List Float
   now b = pick b c product
@@ -204,7 +205,7 @@ module _ {l : Lookat} {x : Looking} (S : LookSame l x) (m : Matrices) (top : Lis
 
 -- ---- fog
 
-module _ (t : List (List ℤ)) (h : Wide 2 t) (mul offset : ℤ) (foggy : Bool) where
+module _ (t : List (List ℤ)) (h : Wide fogWidth t) (mul offset : ℤ) (foggy : Bool) where
   pub fog-number : pick foggy (find t (mul ∷ offset ∷ []) + 1) 0 ≡ cond foggy (position t mul offset + 1) 0
   unfolding pick
   fog-number = rw (position-same t mul offset h) (go foggy)
@@ -216,9 +217,9 @@ module _ (t : List (List ℤ)) (h : Wide 2 t) (mul offset : ℤ) (foggy : Bool) 
   pub fog-after : edit (onlyIf (foggy && not (ltb (find t (mul ∷ offset ∷ [])) (length t))) ((mul ∷ offset ∷ []) ∷ [])) t ≡ t ++ fog-entries foggy t mul offset
   fog-after = rw (position-same t mul offset h) (edit-if _ _ t)
 
-  pub fog-wide : Wide 2 (t ++ fog-entries foggy t mul offset)
+  pub fog-wide : Wide fogWidth (t ++ fog-entries foggy t mul offset)
   fog-wide = wide-append 2 t (fog-entries foggy t mul offset) h (go (foggy && not (ltb (position t mul offset) (length t))))
     where
-      go : (b : Bool) → Wide 2 (cond b ((mul ∷ offset ∷ []) ∷ []) [])
+      go : (b : Bool) → Wide fogWidth (cond b ((mul ∷ offset ∷ []) ∷ []) [])
       go true = (refl, tt)
       go false = tt

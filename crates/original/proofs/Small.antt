@@ -40,16 +40,7 @@ apart-from-one a d n D h v e =
     let q : 2097152 ≡ n = eq-of-mul-eq-mul-right d D 2097152 n (mul-comm 2097152 d ∙ ap (λ (x : ℕ). x * 2097152) (sym e) ∙ v) in
     omega (arith, q)
 
--- what is n / 2097152 does not equal 1
-value-not-one : (x : Float) (n : ℕ) → n < 65536 → HasValue x false n 2097152 → eq x f1 ≡ false
-unfolding eq
-value-not-one nan n h v = absurd v
-value-not-one (inf t) n h v = absurd v
-value-not-one (fin s m e) n h v =
-    let q : m * up e * 1 ≢ 1 * 1 * down e = λ t. apart-from-one (m * up e) (down e) n (down-pos e) h (v .1) (sym (mul-one (m * up e)) ∙ t ∙ one-mul (down e)) in
-    rw (ne-eqb (m * up e * 1) (1 * 1 * down e) q)
-
--- and 1 does not equal it
+-- 1 does not equal what is n / 2097152
 one-not-value : (x : Float) (n : ℕ) → n < 65536 → HasValue x false n 2097152 → eq f1 x ≡ false
 unfolding eq
 one-not-value nan n h v = absurd v
@@ -57,10 +48,6 @@ one-not-value (inf t) n h v = absurd v
 one-not-value (fin s m e) n h v =
     let q : 1 * 1 * down e ≢ m * up e * 1 = λ t. apart-from-one (m * up e) (down e) n (down-pos e) h (v .1) (sym (mul-one (m * up e)) ∙ sym t ∙ one-mul (down e)) in
     rw (ne-eqb (1 * 1 * down e) (m * up e * 1) q)
-
--- a texture scale does not equal 1
-pub never-one : (n : ℕ) → n < 65536 → eq (ofRatio binary32 (pos n) 2097152) f1 ≡ false
-never-one n h = value-not-one (ofRatio binary32 (pos n) 2097152) n h (scale-value n h)
 
 -- 1 does not equal a texture scale
 pub one-never : (n : ℕ) → n < 65536 → eq f1 (ofRatio binary32 (pos n) 2097152) ≡ false

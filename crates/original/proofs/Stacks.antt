@@ -9,10 +9,11 @@ use mathlib.Core.Bool.{Bool, true, false, _&&_, cond}
 use mathlib.Core.List.{List, [], _∷_, _++_, map}
 use lib.ListN.{length, getD, set, length-append, length-set, length-map}
 use lib.Seq.{getD-set-same, getD-set-other}
-use lib.Dec.{ltb}
+use lib.Dec.{ltb, lit<}
 use lib.Ieee.{Float, nan, eq}
 use borrow.Author.Tests.{ltb-true}
 use Rattle.areas.specs.Area.{put, matches}
+use Rattle.areas.specs.Widths.{matrixWidth}
 use Rattle.areas.proofs.Tables.{length-put, put-other, put-inside}
 use Rattle.matrix.specs.Math.{at, rowTimes, times, rows, laid}
 use Rattle.matrix.proofs.Believe.{length-laid}
@@ -40,78 +41,30 @@ unfolding rows laid
 laid-again a = refl
 
 -- sixteen numbers that are the same one by one
-pub rows-by : (f g : List Float) (i j : ℕ) → ((c : ℕ) → c < 16 → at f (i + c) ≡ at g (j + c)) → rows f i ≡ rows g j
+pub rows-by : (f g : List Float) (i j : ℕ) → ((c : ℕ) → c < matrixWidth → at f (i + c) ≡ at g (j + c)) → rows f i ≡ rows g j
 unfolding rows
 rows-by f g i j h = λ t.
-    (first t ∷ low 1 lt1 t ∷ low 2 lt2 t ∷ low 3 lt3 t ∷ [])
-    ∷ (low 4 lt4 t ∷ high 4 1 lt5 t ∷ high 4 2 lt6 t ∷ high 4 3 lt7 t ∷ [])
-    ∷ (low 8 lt8 t ∷ high 8 1 lt9 t ∷ high 8 2 lt10 t ∷ high 8 3 lt11 t ∷ [])
-    ∷ (low 12 lt12 t ∷ high 12 1 lt13 t ∷ high 12 2 lt14 t ∷ high 12 3 lt15 t ∷ [])
+    (first t ∷ h 1 (lit< tt) t ∷ h 2 (lit< tt) t ∷ h 3 (lit< tt) t ∷ [])
+    ∷ (h 4 (lit< tt) t ∷ high 4 1 (lit< tt) t ∷ high 4 2 (lit< tt) t ∷ high 4 3 (lit< tt) t ∷ [])
+    ∷ (h 8 (lit< tt) t ∷ high 8 1 (lit< tt) t ∷ high 8 2 (lit< tt) t ∷ high 8 3 (lit< tt) t ∷ [])
+    ∷ (h 12 (lit< tt) t ∷ high 12 1 (lit< tt) t ∷ high 12 2 (lit< tt) t ∷ high 12 3 (lit< tt) t ∷ [])
     ∷ []
   where
-    low : (c : ℕ) → c < 16 → at f (i + c) ≡ at g (j + c)
-    low c l = h c l
-
     first : at f i ≡ at g j
-    first = ap (at f) (sym (add-zero i)) ∙ h 0 (omega arith) ∙ ap (at g) (add-zero j)
+    first = ap (at f) (sym (add-zero i)) ∙ h 0 (lit< tt) ∙ ap (at g) (add-zero j)
 
-    high : (a b : ℕ) → a + b < 16 → at f (i + a + b) ≡ at g (j + a + b)
+    high : (a b : ℕ) → a + b < matrixWidth → at f (i + a + b) ≡ at g (j + a + b)
     high a b l = ap (at f) (add-assoc i a b) ∙ h (a + b) l ∙ ap (at g) (sym (add-assoc j a b))
 
-    lt1 : 1 < 16
-    lt1 = omega arith
-
-    lt2 : 2 < 16
-    lt2 = omega arith
-
-    lt3 : 3 < 16
-    lt3 = omega arith
-
-    lt4 : 4 < 16
-    lt4 = omega arith
-
-    lt5 : 4 + 1 < 16
-    lt5 = omega arith
-
-    lt6 : 4 + 2 < 16
-    lt6 = omega arith
-
-    lt7 : 4 + 3 < 16
-    lt7 = omega arith
-
-    lt8 : 8 < 16
-    lt8 = omega arith
-
-    lt9 : 8 + 1 < 16
-    lt9 = omega arith
-
-    lt10 : 8 + 2 < 16
-    lt10 = omega arith
-
-    lt11 : 8 + 3 < 16
-    lt11 = omega arith
-
-    lt12 : 12 < 16
-    lt12 = omega arith
-
-    lt13 : 12 + 1 < 16
-    lt13 = omega arith
-
-    lt14 : 12 + 2 < 16
-    lt14 = omega arith
-
-    lt15 : 12 + 3 < 16
-    lt15 = omega arith
-
 -- a matrix put into the stack is read there, and no other changes
-rows-put : (l v : List Float) (k : ℕ) → length v ≡ 16 → 16 * k + 16 ≤ length l → rows (put l (16 * k) v) (16 * k) ≡ rows v 0
-rows-put l v k h fits = rows-by (put l (16 * k) v) v (16 * k) 0 (λ c q. put-inside l (16 * k) v c nan (omega (arith, h)) (omega arith) ∙ ap (at v) (zero-plus c))
+rows-put : (l v : List Float) (k : ℕ) → length v ≡ matrixWidth → matrixWidth * k + matrixWidth ≤ length l → rows (put l (matrixWidth * k) v) (matrixWidth * k) ≡ rows v 0
+rows-put l v k h fits = rows-by (put l (matrixWidth * k) v) v (matrixWidth * k) 0 (λ c q. put-inside l (matrixWidth * k) v c nan (omega (arith, h)) (omega arith) ∙ ap (at v) (zero-plus c))
   where
     zero-plus : (c : ℕ) → c ≡ 0 + c
     zero-plus c = omega arith
 
-rows-beside : (l v : List Float) (k i : ℕ) → i < k → rows (put l (16 * k) v) (16 * i) ≡ rows l (16 * i)
-rows-beside l v k i h = rows-by (put l (16 * k) v) l (16 * i) (16 * i) (λ c q. put-other l (16 * k) v (16 * i + c) nan (inl (omega arith)))
+rows-beside : (l v : List Float) (k i : ℕ) → i < k → rows (put l (matrixWidth * k) v) (matrixWidth * i) ≡ rows l (matrixWidth * i)
+rows-beside l v k i h = rows-by (put l (matrixWidth * k) v) l (matrixWidth * i) (matrixWidth * i) (λ c q. put-other l (matrixWidth * k) v (matrixWidth * i + c) nan (inl (omega arith)))
 
 -- ---- the last entry of table 1
 
@@ -194,11 +147,11 @@ module _ {d : ℕ} {st p c : List Float} {t : List (List Float)} {m : Matrices} 
 
 module _ {d : ℕ} {st p c : List Float} {t : List (List Float)} {m : Matrices} (S : MatrixSame d st p c t m) where
   -- the model top
-  pub top-same : rows st (16 * (d - 1)) ≡ rows (laid (mv-top m)) 0
+  pub top-same : rows st (matrixWidth * (d - 1)) ≡ rows (laid (mv-top m)) 0
   top-same = rw (← (S .depth)) (S .stack (d - 1) (omega (arith, S .low)))
 
   -- top times projection
-  pub product-same : laid (times (rows st (16 * (d - 1))) (rows p 0)) ≡ laid (mul4 (mv-top m) (m .viewproj))
+  pub product-same : laid (times (rows st (matrixWidth * (d - 1))) (rows p 0)) ≡ laid (mul4 (mv-top m) (m .viewproj))
   product-same =
       ap laid
       (ap₂ times top-same (ap (λ (x : List Float). rows x 0) (S .projection))
@@ -248,14 +201,14 @@ module _ {d : ℕ} {st p c : List Float} {t : List (List Float)} {m : Matrices} 
 
   -- a matrix y written at depth e, of which all below is as it was
   written : (e : ℕ) (y : Mat4) (v : List Float) (ms : List Mat4) → v ≡ laid y → 1 ≤ e → e ≤ 32 → length ms ≡ 32
-      → ((i : ℕ) → i < e - 1 → rows st (16 * i) ≡ rows (laid (getD ms i [])) 0)
-      → MatrixSame e (put st (16 * (e - 1)) v) p c t (with-stack m (set ms (e - 1) y) e)
+      → ((i : ℕ) → i < e - 1 → rows st (matrixWidth * i) ≡ rows (laid (getD ms i [])) 0)
+      → MatrixSame e (put st (matrixWidth * (e - 1)) v) p c t (with-stack m (set ms (e - 1) y) e)
   written e y v ms q l h n below =
       record {
         depth = refl;
         low = l;
         high = h;
-        long = length-put st (16 * (e - 1)) v ∙ S .long;
+        long = length-put st (matrixWidth * (e - 1)) v ∙ S .long;
         deep = length-set ms (e - 1) y ∙ n;
         stack = at-place;
         projection = S .projection;
@@ -265,10 +218,10 @@ module _ {d : ℕ} {st p c : List Float} {t : List (List Float)} {m : Matrices} 
         current = S .current;
       }
     where
-      at-place : (i : ℕ) → i < e → rows (put st (16 * (e - 1)) v) (16 * i) ≡ rows (laid (getD (set ms (e - 1) y) i [])) 0
+      at-place : (i : ℕ) → i < e → rows (put st (matrixWidth * (e - 1)) v) (matrixWidth * i) ≡ rows (laid (getD (set ms (e - 1) y) i [])) 0
       at-place i k = go (ℕ-discrete i (e - 1))
         where
-          go : Dec (i ≡ e - 1) → rows (put st (16 * (e - 1)) v) (16 * i) ≡ rows (laid (getD (set ms (e - 1) y) i [])) 0
+          go : Dec (i ≡ e - 1) → rows (put st (matrixWidth * (e - 1)) v) (matrixWidth * i) ≡ rows (laid (getD (set ms (e - 1) y) i [])) 0
           go (yes z) =
               rw (z, getD-set-same ms (e - 1) y [] (omega (arith, n)))
               (rows-put st v (e - 1) (ap length q ∙ length-laid y) (omega (arith, S .long)) ∙ ap (λ (x : List Float). rows x 0) q)
@@ -292,12 +245,12 @@ module _ {d : ℕ} {st p c : List Float} {t : List (List Float)} {m : Matrices} 
         cur-mvp-index = m .cur-mvp-index;
       }
 
-  top-there : rows st (16 * (d - 1)) ≡ rows (laid (getD (m .model-stack) (d - 1) [])) 0
+  top-there : rows st (matrixWidth * (d - 1)) ≡ rows (laid (getD (m .model-stack) (d - 1) [])) 0
   top-there = S .stack (d - 1) (omega (arith, S .low))
 
   -- where the push is done, and where there is none or it is dropped
   pushed-set : (load : Bool) (x : Mat4) → d < 32
-      → MatrixSame (d + 1) (put st (16 * (d + 1 - 1)) (laid (made load x (rows st (16 * (d - 1)))))) p c t
+      → MatrixSame (d + 1) (put st (matrixWidth * (d + 1 - 1)) (laid (made load x (rows st (matrixWidth * (d - 1)))))) p c t
       (write-top load x (with-stack named (set (m .model-stack) d (getD (m .model-stack) (d - 1) [])) (d + 1)))
   unfolding write-top
   pushed-set load x l =
@@ -312,21 +265,21 @@ module _ {d : ℕ} {st p c : List Float} {t : List (List Float)} {m : Matrices} 
           let z : d + 1 - 1 ≡ d = omega arith in
           rw z (getD-set-same (m .model-stack) d (getD (m .model-stack) (d - 1) []) [] (omega (arith, S .deep)))
 
-  kept-set : (load : Bool) (x : Mat4) → MatrixSame d (put st (16 * (d - 1)) (laid (made load x (rows st (16 * (d - 1)))))) p c t (write-top load x named)
+  kept-set : (load : Bool) (x : Mat4) → MatrixSame d (put st (matrixWidth * (d - 1)) (laid (made load x (rows st (matrixWidth * (d - 1)))))) p c t (write-top load x named)
   unfolding write-top
   kept-set load x = written d _ _ (m .model-stack) (made-same load x _ _ top-there) (S .low) (S .high) (S .deep) (λ i h. S .stack i (omega (arith, h)))
 
   -- the model matrix: a push copies the top, then the top is written
   pub model-set : (push load : Bool) (x : Mat4)
-      → MatrixSame (pushed push d) (put st (16 * (pushed push d - 1)) (laid (made load x (rows st (16 * (d - 1)))))) p c t (write-top load x (push-model push m))
+      → MatrixSame (pushed push d) (put st (matrixWidth * (pushed push d - 1)) (laid (made load x (rows st (matrixWidth * (d - 1)))))) p c t (write-top load x (push-model push m))
   unfolding pushed push-model
   model-set push load x =
       subst
-      (λ (n : Matrices). MatrixSame (cond (push && ltb d 32) (d + 1) d) (put st (16 * (cond (push && ltb d 32) (d + 1) d - 1)) (laid (made load x (rows st (16 * (d - 1)))))) p c t (write-top load x (push-model push n)))
+      (λ (n : Matrices). MatrixSame (cond (push && ltb d 32) (d + 1) d) (put st (matrixWidth * (cond (push && ltb d 32) (d + 1) d - 1)) (laid (made load x (rows st (matrixWidth * (d - 1)))))) p c t (write-top load x (push-model push n)))
       named-is (go (push && ltb d 32) refl)
     where
       go : (b : Bool) → push && ltb d 32 ≡ b
-          → MatrixSame (cond b (d + 1) d) (put st (16 * (cond b (d + 1) d - 1)) (laid (made load x (rows st (16 * (d - 1)))))) p c t
+          → MatrixSame (cond b (d + 1) d) (put st (matrixWidth * (cond b (d + 1) d - 1)) (laid (made load x (rows st (matrixWidth * (d - 1)))))) p c t
           (write-top load x (cond b (with-stack named (set (m .model-stack) d (getD (m .model-stack) (d - 1) [])) (d + 1)) named))
       go true e = pushed-set load x (ltb-true d 32 (and-right push (ltb d 32) e))
       go false e = kept-set load x

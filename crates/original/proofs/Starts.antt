@@ -1,6 +1,6 @@
 -- The start, and document 01's prologue: after it the two sides are the same. Assumes nothing.
 use mathlib.Core.Path.{_≡_, refl, sym, ap, ap₂, _∙_}
-use Prim.Native.Nat.{ℕ, zero, suc, _+_, _-_, _*_, _≤_, _<_}
+use Prim.Native.Nat.{ℕ, zero, suc, _+_, _*_, _≤_, _<_}
 use native.Mathlib.Omega.{arith}
 use mathlib.Core.Bool.{Bool, true, false, not, cond}
 use mathlib.Core.List.{List, [], _∷_, _++_}
@@ -9,6 +9,7 @@ use lib.ListN.{length, getD, replicate, getD-replicate, length-append, length-re
 use Rattle.matrix.proofs.Believe.{length-laid}
 use lib.Ieee.{Float, nan, eq}
 use Rattle.areas.specs.Area.{matches}
+use Rattle.areas.specs.Widths.{matrixWidth, viewportWidth}
 use Rattle.matrix.specs.Math as math
 use Rattle.matrix.specs.Math.{rows, laid, identity as identity′}
 use Rattle.decide.specs.Family.{f3dex2}
@@ -36,7 +37,8 @@ use Rattle.original.proofs.Alike.{entry-same}
 use Rattle.original.proofs.Readers.{tc-same}
 use Rattle.original.proofs.Loads.{Scaled, scale-entry}
 use Rattle.original.proofs.Seeds.{zeros-entry, half-entry, seed-scale, ratio-zero}
-use Rattle.original.proofs.Views.{entry-read, view-near}
+use Rattle.original.proofs.Nears.{space-near}
+use Rattle.original.proofs.Views.{entry-read}
 use Rattle.original.proofs.Settings.{map-replicate}
 
 -- ---- what is said of the parts that begin differently
@@ -48,7 +50,7 @@ abbrev pub Geometry0 : ℕ → ℕ → Type 0
 Geometry0 a b = (a ≡ 0) × (b ≡ g-clipping)
 
 abbrev pub View0 : List Float → List (List Float) → Viewports → Type 0
-View0 v t x = (t ≡ zeros 6 ∷ []) × (x ≡ default .viewports)
+View0 v t x = (t ≡ zeros viewportWidth ∷ []) × (x ≡ default .viewports)
 
 abbrev pub Scale0 : ℕ → List (List Float) → Texcoords → Type 0
 Scale0 u t x = (u ≡ 0) × (t ≡ []) × (x ≡ default .texcoords)
@@ -84,7 +86,7 @@ matrices0 =
       current = refl;
     }
   where
-    first : (i : ℕ) → i < 1 → rows (laid identity′ ++ zeros 496) (16 * i) ≡ rows (laid (getD (replicate 32 identity) i [])) 0
+    first : (i : ℕ) → i < 1 → rows (laid identity′ ++ zeros 496) (matrixWidth * i) ≡ rows (laid (getD (replicate 32 identity) i [])) 0
     first i h =
         let z : i ≡ 0 = omega arith in
         rw z (front (zeros 496))
@@ -136,23 +138,16 @@ unfolding start opened blank
 start-near l =
     record {
       count = record { matrices = refl; viewports = refl; scales = refl; lights = refl; lookats = refl; fogs = refl; rows = refl; indices = refl; runs = refl };
-      settings = record { microcode = refl; texture = refl; small = (omega arith, omega arith); fogmul = refl; fogoff = refl; geometry = (refl, refl) };
-      matrices = matrices0;
-      defined = tt;
-      view = (refl, refl);
-      lights = lights0;
-      lookat = lookat0;
-      slots = slots0;
-      scales = (refl, refl, refl);
-      rows = (refl, refl);
-      recorded = record { light-table = refl; lookat-table = refl; fog-table = refl; fog-pairs = tt; indices = refl; runs = refl };
+      modes = record { settings = record { microcode = refl; texture = refl; small = (omega arith, omega arith); fogmul = refl; fogoff = refl; geometry = (refl, refl) }; lights = lights0; lookat = lookat0 };
+      space = record { matrices = matrices0; defined = tt; view = (refl, refl) };
+      held = record { slots = slots0; scales = (refl, refl, refl); rows = (refl, refl); recorded = record { light-table = refl; lookat-table = refl; fog-table = refl; fog-pairs = tt; indices = refl; runs = refl } };
     }
 
 -- ---- the viewport set for the first time
 
 -- how many entries each side had before the point
 abbrev pub port-before : List ℕ → ℕ → ℕ
-port-before bytes at = length (cond (matches eq (zeros 6) (viewportEntry bytes at)) [] (zeros 6 ∷ []))
+port-before bytes at = length (cond (matches eq (zeros viewportWidth) (viewportEntry bytes at)) [] (zeros viewportWidth ∷ []))
 
 abbrev pub rust-before : List ℕ → ℕ → ℕ
 rust-before bytes at = length (cond (matches eq (half-screen ++ half-screen) (viewportEntry bytes at)) [] ((half-screen ++ half-screen) ∷ []))
@@ -166,17 +161,17 @@ module _ (bytes : List ℕ) (at : ℕ) (I : Data bytes) (n : at + 16 ≤ length 
   before2 b e = cond b [] (e ∷ [])
 
   abbrev port-kept : Bool
-  port-kept = matches eq (zeros 6) v
+  port-kept = matches eq (zeros viewportWidth) v
 
   abbrev rust-kept : Bool
   rust-kept = matches eq (half-screen ++ half-screen) v
 
   begun-meets : (p q : Bool) → port-kept ≡ p → rust-kept ≡ q
-      → Meets (length (before2 p (zeros 6))) (length (before2 q (half-screen ++ half-screen))) (cond p (zeros 6 ∷ []) (zeros 6 ∷ v ∷ [])) (cond q ((half-screen ++ half-screen) ∷ []) ((half-screen ++ half-screen) ∷ v ∷ []))
+      → Meets (length (before2 p (zeros viewportWidth))) (length (before2 q (half-screen ++ half-screen))) (cond p (zeros viewportWidth ∷ []) (zeros viewportWidth ∷ v ∷ [])) (cond q ((half-screen ++ half-screen) ∷ []) ((half-screen ++ half-screen) ∷ v ∷ []))
   unfolding viewportAt
   begun-meets p q hp hq =
       record {
-        before = before2 p (zeros 6);
+        before = before2 p (zeros viewportWidth);
         under = before2 q (half-screen ++ half-screen);
         since = v ∷ [];
         some-since = omega arith;
@@ -186,7 +181,7 @@ module _ (bytes : List ℕ) (at : ℕ) (I : Data bytes) (n : at + 16 ≤ length 
         rust-is = rust q hq;
       }
     where
-      port : (b : Bool) → port-kept ≡ b → cond b (zeros 6 ∷ []) (zeros 6 ∷ v ∷ []) ≡ before2 b (zeros 6) ++ v ∷ []
+      port : (b : Bool) → port-kept ≡ b → cond b (zeros viewportWidth ∷ []) (zeros viewportWidth ∷ v ∷ []) ≡ before2 b (zeros viewportWidth) ++ v ∷ []
       port true h = ap (λ (x : List Float). x ∷ []) (sym (zeros-entry bytes at (I .bytes) h))
       port false h = refl
 
@@ -199,11 +194,11 @@ module _ (bytes : List ℕ) (at : ℕ) (I : Data bytes) (n : at + 16 ≤ length 
   unfolding last-is
   first-compared = entry-same half-screen half-screen (vp3 bytes at) (vp3 bytes (at + 8)) refl refl refl refl ∙ ap (matches eq (half-screen ++ half-screen)) (sym (entry-read bytes at I n .2))
 
-  begun-view : (p : Bool) → port-kept ≡ p → ViewSame (port-before bytes at) (rust-before bytes at) v (cond p (zeros 6 ∷ []) (zeros 6 ∷ v ∷ [])) (set-viewport bytes at (default .viewports))
+  begun-view : (p : Bool) → port-kept ≡ p → ViewSame (port-before bytes at) (rust-before bytes at) v (cond p (zeros viewportWidth ∷ []) (zeros viewportWidth ∷ v ∷ [])) (set-viewport bytes at (default .viewports))
   unfolding set-viewport
   begun-view p hp = by rust-kept refl
     where
-      by : (q : Bool) → rust-kept ≡ q → ViewSame (port-before bytes at) (rust-before bytes at) v (cond p (zeros 6 ∷ []) (zeros 6 ∷ v ∷ [])) (set-viewport bytes at (default .viewports))
+      by : (q : Bool) → rust-kept ≡ q → ViewSame (port-before bytes at) (rust-before bytes at) v (cond p (zeros viewportWidth ∷ []) (zeros viewportWidth ∷ v ∷ [])) (set-viewport bytes at (default .viewports))
       by true hq =
           rw (first-compared ∙ hq, hp, hq)
           (record { scale = refl; trans = refl; now = entry-read bytes at I n .2; table = begun-meets p true hp hq; triples = one-triple; current = refl })
@@ -226,9 +221,9 @@ unfolding plan execute
 viewport-begins {D} {G} {X} {R} {k} {w} N bytes at I =
     on-viewport _ (k .state) (k .viewports) bytes at
     (λ n e.
-    let q : matches eq (zeros 6) (viewportEntry bytes at) ≡ true = rw (N .view .0) at e in (refl, view-near N keep (rw (N .view .0, N .view .1) (begun-view bytes at I n true q))))
+    let q : matches eq (zeros viewportWidth) (viewportEntry bytes at) ≡ true = rw (N .space .view .0) at e in (refl, space-near N keep keep (N .space .matrices) (N .space .defined) (rw (N .space .view .0, N .space .view .1) (begun-view bytes at I n true q))))
     (λ n e _.
-    let q : matches eq (zeros 6) (viewportEntry bytes at) ≡ false = rw (N .view .0) at e in (refl, view-near N (grow (viewportEntry bytes at ∷ [])) (rw (N .view .0, N .view .1) (begun-view bytes at I n false q))))
+    let q : matches eq (zeros viewportWidth) (viewportEntry bytes at) ≡ false = rw (N .space .view .0) at e in (refl, space-near N keep (grow (viewportEntry bytes at ∷ [])) (N .space .matrices) (N .space .defined) (rw (N .space .view .0, N .space .view .1) (begun-view bytes at I n false q))))
 
 -- ---- the geometry mode set whole
 
@@ -297,24 +292,4 @@ scales-begun s hs ht = go (eq2 (f0 ∷ f0 ∷ []) (tc-scale (s .sc) ∷ tc-scale
 
 -- no rows yet
 pub rows-begun : (o : Offsets) (rs : List Row) (c : Columns) → Rows0 rs c → RowsSame o rs c
-rows-begun o rs c h =
-    rw (h .0, h .1)
-    (record {
-      nine = λ i q. absurd (omega arith);
-      ten = λ i q. absurd (omega arith);
-      since2 = λ i q. absurd (omega arith);
-      since3 = λ i q. absurd (omega arith);
-      raw-pos = refl;
-      raw-st = refl;
-      modify-screen = refl;
-      modify-flags = refl;
-      mtx-index = refl;
-      viewport-index = refl;
-      texcoord-index = refl;
-      cn = refl;
-      light-index = refl;
-      light-count = refl;
-      texgen-mode = refl;
-      fog = refl;
-      lookat-index = refl;
-    })
+rows-begun o rs c h = rw (h .0, h .1) (record { each = λ i q. absurd (omega arith); columns = refl })

@@ -53,7 +53,7 @@ module _ {D : Bool → Bool → Type 0} {G : ℕ → ℕ → Type 0} {P : List F
   slot-loaded : (slot : ℕ) → held 256 (k .state .loaded) slot ≡ true → leb 256 slot || not (getD (w .rsp .slots .loaded) slot false) ≡ false
   unfolding held
   slot-loaded slot h =
-      let a : getD (w .rsp .slots .loaded) slot false ≡ true = ap (λ (l : List Bool). getD l slot false) (sym (N .slots .loaded)) ∙ and-right (ltb slot 256) (getD (k .state .loaded) slot false) h in
+      let a : getD (w .rsp .slots .loaded) slot false ≡ true = ap (λ (l : List Bool). getD l slot false) (sym (N .held .slots .loaded)) ∙ and-right (ltb slot 256) (getD (k .state .loaded) slot false) h in
       let b : slot < 256 = ltb-true slot 256 (and-left (ltb slot 256) (getD (k .state .loaded) slot false) h) in
       rw (a, lt-leb 256 slot b)
 
@@ -62,8 +62,8 @@ module _ {D : Bool → Bool → Type 0} {G : ℕ → ℕ → Type 0} {P : List F
   depth-agrees slot threshold small =
       on-depth _ 256 (k .state) slot threshold
       (λ a b.
-      let t = there (w .rsp .slots .screen-z) slot (ap (λ (l : List Bool). getD l slot false) (sym (N .slots .deep)) ∙ b) in
-      let z : getD (k .state .z) slot nan ≡ t .value = ap (λ (l : List Float). getD l slot nan) (N .slots .z) ∙ t .read math.zero nan in
+      let t = there (w .rsp .slots .screen-z) slot (ap (λ (l : List Bool). getD l slot false) (sym (N .held .slots .deep)) ∙ b) in
+      let z : getD (k .state .z) slot nan ≡ t .value = ap (λ (l : List Float). getD l slot nan) (N .held .slots .z) ∙ t .read math.zero nan in
       rw (slot-loaded slot a, t .is, wide-same threshold small, z) (ap (λ (n : ℕ). n ∷ []) (bit-is (le (t .value) (ofRatio binary64 (pos threshold) 65536))), N))
 
   -- ---- cull test
@@ -72,9 +72,9 @@ module _ {D : Bool → Bool → Type 0} {G : ℕ → ℕ → Type 0} {P : List F
   unfolding common
   common-is zero i code h = refl
   common-is (suc n) i code h =
-      let a : getD (w .rsp .slots .loaded) i false ≡ true = ap (λ (l : List Bool). getD l i false) (sym (N .slots .loaded)) ∙ h .0 in
-      let t = there (w .rsp .slots .clip-codes) i (ap (λ (l : List Bool). getD l i false) (sym (N .slots .coded)) ∙ h .1) in
-      let c : getD (k .state .code) i 0 ≡ t .value = ap (λ (l : List ℕ). getD l i 0) (N .slots .code) ∙ t .read 0 0 in
+      let a : getD (w .rsp .slots .loaded) i false ≡ true = ap (λ (l : List Bool). getD l i false) (sym (N .held .slots .loaded)) ∙ h .0 in
+      let t = there (w .rsp .slots .clip-codes) i (ap (λ (l : List Bool). getD l i false) (sym (N .held .slots .coded)) ∙ h .1) in
+      let c : getD (k .state .code) i 0 ≡ t .value = ap (λ (l : List ℕ). getD l i 0) (N .held .slots .code) ∙ t .read 0 0 in
       rw (a, t .is, c) (common-is n (i + 1) (bitAnd code (t .value)) (h .2))
 
   pub cull-agrees : (first last : ℕ) → Owes (cull first last)

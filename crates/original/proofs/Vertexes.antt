@@ -1,6 +1,6 @@
 -- The vertices of a load, on the two sides: slots and rows. Assumes nothing.
 use mathlib.Core.Path.{_≡_, refl, sym, ap, ap₂, _∙_}
-use Prim.Native.Nat.{ℕ, zero, suc, _+_, _-_, _*_, _≤_}
+use Prim.Native.Nat.{ℕ, zero, suc, _+_, _*_, _≤_}
 use native.Mathlib.Omega.{arith}
 use mathlib.Core.Bool.{Bool, true, false, _&&_, cond, false≢true}
 use mathlib.Core.List.{List, [], _∷_, _++_, map, append-nil, append-assoc}
@@ -27,12 +27,12 @@ use Rattle.original.specs.Math.{Mat4, f0, f1, ix, mul-row-vec4}
 use Rattle.original.specs.Memory.{RawVertex, read-vertex}
 use Rattle.original.specs.Rsp.{Slots}
 use Rattle.original.specs.Drawing.{Columns, push, clip-code, Sharing, from-le, slot-then, made-by, vertices, slots-then, columns-then}
-use Rattle.original.specs.Relation.{over, Offsets, isSome, orElse, SlotsSame, RowsSame}
+use Rattle.original.specs.Relation.{over, Offsets, isSome, orElse, SlotsSame, made-of, RowsSame}
 use Rattle.original.specs.Domain.{Data}
 use Rattle.original.proofs.Alike.{row-same, code-same, screen-same}
 use Rattle.original.proofs.Readers.{vertex-same}
 use Rattle.original.proofs.Draws.{map-set}
-use Rattle.original.proofs.RowsOf.{made-of, row-pushed}
+use Rattle.original.proofs.RowsOf.{row-pushed}
 
 -- what the rows share, by the names that each side has for it
 pub record ShareSame (o : Offsets) (e : Shared) (x : Sharing) : Type 0 where
@@ -158,6 +158,6 @@ module _ (o : Offsets) (e : Shared) (x : Sharing) (H : ShareSame o e x) (m : Lis
   unfolding columns-then vertices verticesAt wordsOf
   rows-filled zero p rs c h S = rw (append-nil rs) S
   rows-filled (suc n) p rs c h S =
-      let T : RowsSame o (rs ++ vertexRow e (vertexAt b p) ∷ []) (push c (made-by x (read-vertex b p))) = rw (made-same p (omega arith)) (row-pushed S (vertexRow e (vertexAt b p)) (floats-size (vertexAt b p)) (words-size e (vertexAt b p)) (H .since2) (H .since3)) in
+      let T : RowsSame o (rs ++ vertexRow e (vertexAt b p) ∷ []) (push c (made-by x (read-vertex b p))) = rw (made-same p (omega arith)) (row-pushed S (vertexRow e (vertexAt b p)) (record { floats = floats-size (vertexAt b p); words = words-size e (vertexAt b p); viewport = H .since2; scale = H .since3 })) in
       let K = rows-filled n (p + 16) (rs ++ vertexRow e (vertexAt b p) ∷ []) (push c (made-by x (read-vertex b p))) (omega arith) T in
       rw (append-assoc rs (vertexRow e (vertexAt b p) ∷ []) (map (vertexRow e) (verticesAt b (p + 16) n))) at K

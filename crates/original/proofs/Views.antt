@@ -11,19 +11,18 @@ use Rattle.areas.specs.Area.{matches}
 use Rattle.decide.specs.Append.{final}
 use Rattle.decide.specs.Family.{f3dex2}
 use Rattle.layout.specs.Layout.{tripleAt, viewportAt}
-use Rattle.stage.specs.Plan.{Edit, keep, grow, Row}
-use Rattle.stage.specs.With.{withViewport}
-use Rattle.stage.specs.Matrices.{edits2, viewportEntry}
+use Rattle.stage.specs.Plan.{keep, grow, Row}
+use Rattle.stage.specs.Matrices.{viewportEntry}
 use Rattle.sequence.specs.Sequence.{viewport, Book, plan}
-use Rattle.sequence.proofs.Turn.{edit, enter}
-use Rattle.sequence.proofs.Counted.{counted-then}
+use Rattle.sequence.proofs.Turn.{enter}
 use Rattle.sequence.proofs.Accepts.{Accepted, on-viewport}
 use Rattle.original.specs.Rsp.{Viewports, Texcoords, last-is, vp3, eq-entry, set-viewport}
 use Rattle.original.specs.Drawing.{Columns}
-use Rattle.original.specs.Walk.{World, execute, with-rsp, with-viewports}
-use Rattle.original.specs.Relation.{over, Meets, joined, ViewSame, Near}
+use Rattle.original.specs.Walk.{World, execute}
+use Rattle.original.specs.Relation.{over, Meets, joined, fours, ViewSame, Near}
 use Rattle.original.specs.Domain.{Data, Agrees}
 use Rattle.original.proofs.Alike.{entry-same, last-final}
+use Rattle.original.proofs.Nears.{space-near}
 use Rattle.original.proofs.Readers.{triple-same}
 use Rattle.original.proofs.Stacks.{getD-map, map-snoc}
 
@@ -71,6 +70,40 @@ module _ {a b : ℕ} {port rust : List (List Float)} (M : Meets a b port rust) w
   some-rust =
       let r : length rust ≡ length (M .under) + length (M .since) = ap length (M .rust-is) ∙ length-append (M .under) (M .since) in
       omega (arith, M .some-since)
+
+-- the number that the next entry gets, on each side
+pub next-number : {a b : ℕ} {port rust : List (List Float)} (M : Meets a b port rust) → (length rust ≡ over a b (length port)) × (a ≤ length port)
+next-number {a} {b} {port} {rust} M =
+    let p : length port ≡ length (M .before) + length (M .since) = ap length (M .port-is) ∙ length-append (M .before) (M .since) in
+    let r : length rust ≡ length (M .under) + length (M .since) = ap length (M .rust-is) ∙ length-append (M .under) (M .since) in
+    (omega (arith, M .port-size, M .rust-size), omega (arith, M .port-size))
+
+-- ---- the scales, of which the original keeps the pairs in two tables
+
+-- an entry of the coordinate pairs and of the texgen pairs
+pub fours-at : (cs gs : List (List Float)) → length cs ≡ length gs → (i : ℕ) → getD (fours cs gs) i [] ≡ getD cs i [] ++ getD gs i []
+fours-at [] [] e i = refl
+fours-at [] (g ∷ gs) e i = absurd (omega (arith, e))
+fours-at (c ∷ cs) [] e i = absurd (omega (arith, e))
+fours-at (c ∷ cs) (g ∷ gs) e zero = refl
+fours-at (c ∷ cs) (g ∷ gs) e (suc i) = fours-at cs gs (omega (arith, e)) i
+
+pub fours-snoc : (cs gs : List (List Float)) (c g : List Float) → length cs ≡ length gs → fours (cs ++ c ∷ []) (gs ++ g ∷ []) ≡ fours cs gs ++ (c ++ g) ∷ []
+fours-snoc [] [] c g h = refl
+fours-snoc [] (y ∷ gs) c g h = absurd (omega arith)
+fours-snoc (x ∷ cs) [] c g h = absurd (omega arith)
+fours-snoc (x ∷ cs) (y ∷ gs) c g h = ap (λ (t : List (List Float)). (x ++ y) ∷ t) (fours-snoc cs gs c g (omega arith))
+
+pub length-fours : (cs gs : List (List Float)) → length cs ≡ length gs → length (fours cs gs) ≡ length cs
+length-fours [] gs h = refl
+length-fours (x ∷ cs) [] h = absurd (omega arith)
+length-fours (x ∷ cs) (y ∷ gs) h = ap suc (length-fours cs gs (omega arith))
+
+pub snoc-pairs : (l : List (List Float)) (y : List Float) → ((i : ℕ) → i < length l → length (getD l i []) ≡ 2) → length y ≡ 2 → (i : ℕ) → i < length (l ++ y ∷ []) → length (getD (l ++ y ∷ []) i []) ≡ 2
+snoc-pairs [] y h q zero k = q
+snoc-pairs [] y h q (suc i) k = absurd (omega arith)
+snoc-pairs (z ∷ l) y h q zero k = h 0 (omega arith)
+snoc-pairs (z ∷ l) y h q (suc i) k = snoc-pairs l y (λ j m. h (suc j) (omega arith)) q i (omega arith)
 
 -- ---- the viewport
 
@@ -141,29 +174,10 @@ module _ {a b : ℕ} {v : List Float} {t : List (List Float)} {x : Viewports} (S
       snoc-triples (z ∷ l) y h p q zero k = h 0 (omega arith)
       snoc-triples (z ∷ l) y h p q (suc i) k = snoc-triples l y (λ j m. h (suc j) (omega arith)) p q i (omega arith)
 
--- another viewport on both sides, and what table 2 gets; all else stays
-pub view-near : {D : Bool → Bool → Type 0} {G : ℕ → ℕ → Type 0} {P P′ : List Float → List (List Float) → Viewports → Type 0} {X : ℕ → List (List Float) → Texcoords → Type 0} {R : List Row → Columns → Type 0} {k : Book} {w : World} → Near D G P X R k w
-    → {v : List Float} {x : Viewports} (e : Edit (List Float)) → P′ v (edit e (k .viewports .used)) x
-    → Near D G P′ X R (enter (withViewport (k .state) v) (edits2 e) k) (with-rsp w (with-viewports (w .rsp) x))
-view-near {k = k} N e view =
-    record {
-      count = counted-then k (k .state) (edits2 e) (N .count);
-      settings = N .settings;
-      matrices = N .matrices;
-      defined = N .defined;
-      view = view;
-      lights = N .lights;
-      lookat = N .lookat;
-      slots = N .slots;
-      scales = N .scales;
-      rows = N .rows;
-      recorded = N .recorded;
-    }
-
 pub viewport-agrees : {D : Bool → Bool → Type 0} {G : ℕ → ℕ → Type 0} {X : ℕ → List (List Float) → Texcoords → Type 0} {R : List Row → Columns → Type 0} {a b : ℕ} {k : Book} {w : World} → Near D G (ViewSame a b) X R k w → (bytes : List ℕ) (at : ℕ) → Data bytes
     → Accepted (λ vs t e. Agrees (Near D G (ViewSame a b) X R) vs (enter t e k) (execute (viewport bytes at) w)) (plan f3dex2 256 (viewport bytes at) k)
 unfolding plan execute
 viewport-agrees {D} {G} {X} {R} {a} {b} {k} {w} N bytes at I =
     on-viewport _ (k .state) (k .viewports) bytes at
-    (λ n e. (refl, view-near N keep (view-kept (N .view) bytes at I n e)))
-    (λ n e _. (refl, view-near N (grow (viewportEntry bytes at ∷ [])) (view-new (N .view) bytes at I n e)))
+    (λ n e. (refl, space-near N keep keep (N .space .matrices) (N .space .defined) (view-kept (N .space .view) bytes at I n e)))
+    (λ n e _. (refl, space-near N keep (grow (viewportEntry bytes at ∷ [])) (N .space .matrices) (N .space .defined) (view-new (N .space .view) bytes at I n e)))

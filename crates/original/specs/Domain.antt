@@ -6,6 +6,7 @@ use mathlib.Core.Bool.{Bool}
 use lib.ListN.{length, getD}
 use lib.IntN.{ℤ}
 use Rattle.areas.specs.Area.{room}
+use Rattle.areas.specs.Widths.{matrixWidth, viewportWidth}
 use Rattle.decide.specs.Family.{f3dex2}
 use Rattle.stage.specs.Plan.{Plan, refuse, does}
 use Rattle.sequence.specs.Sequence.{Command, matrix, force, pop, viewport, geometry, texture, fog, number, light, lookat, microcode, load, cull, depth, modify, draw, ink, Areas, Port, Book, book, plan, result, step, run, accepted, opening}
@@ -152,7 +153,7 @@ pub record Equals (cs : List Command) (p : Port) (w : World) : Type 0 where
 
 -- areas with room for an opening
 abbrev pub Opens : Areas → Type 0
-Opens l = (1 ≤ room 16 (length (l .matrices))) × (1 ≤ room 6 (length (l .viewports)))
+Opens l = (1 ≤ room matrixWidth (length (l .matrices))) × (1 ≤ room viewportWidth (length (l .viewports)))
 
 -- DEMAND 2: opened on any areas, after the prologue with any arguments, for every list of commands of the domain that the stage accepts
 abbrev pub Demand2 : Type 0

@@ -8,8 +8,10 @@ use mathlib.Core.List.{List, [], _∷_, _++_, map}
 use mathlib.Core.Option.{Option, none, some}
 use lib.ListN.{length, getD}
 use lib.Dec.{eqb}
+use lib.IntN.{ℤ}
 use lib.Ieee.{Float}
 use Rattle.areas.specs.Area.{part, Wide}
+use Rattle.areas.specs.Widths.{matrixWidth, fogWidth, floatWidth, wordWidth, flagsWord, matrixWord, viewportWord, scaleWord, colourWord, lightWord, lightsWord, texgenWord, fogWord, lookatWord, sFloat, tFloat, screenX, screenY, screenZ}
 use Rattle.matrix.specs.Math.{zero, at, rows, laid}
 use Rattle.fold.specs.Direction.{three}
 use Rattle.triangle.specs.Slot.{bit}
@@ -64,7 +66,7 @@ pub record MatrixSame (d : ℕ) (st p c : List Float) (t : List (List Float)) (m
   pub high : d ≤ 32
   pub long : length st ≡ 512
   pub deep : length (m .model-stack) ≡ 32
-  pub stack : (i : ℕ) → i < d → rows st (16 * i) ≡ rows (laid (getD (m .model-stack) i [])) 0
+  pub stack : (i : ℕ) → i < d → rows st (matrixWidth * i) ≡ rows (laid (getD (m .model-stack) i [])) 0
   pub projection : p ≡ laid (m .viewproj)
   pub combined : c ≡ laid (m .mvp)
   pub table : t ≡ map laid (m .mvp-table)
@@ -143,32 +145,62 @@ pub record SlotsSame (r : List ℕ) (l d c : List Bool) (q : List ℕ) (e : List
 
 -- ---- rows, indices and runs
 
+-- number i of a row's u32, and of its f32
 abbrev pub word : ℕ → Row → ℕ
 word i r = getD (r .words) i 0
 
 abbrev pub float : ℕ → Row → Float
 float i r = at (r .floats) i
 
--- each list of the scene holds its number of every row; the numbers of tables 2 and 3 by their offsets
+-- what the original holds of a row; the numbers of tables 2 and 3 by their offsets
+unfoldable pub made-of : Offsets → Row → Made
+made-of o r =
+    record {
+      pos = float 0 r ∷ float 1 r ∷ float 2 r ∷ [];
+      flags = word flagsWord r;
+      screen = float screenX r ∷ float screenY r ∷ float screenZ r ∷ float 8 r ∷ [];
+      mtx = word matrixWord r;
+      viewport = over (o .port2) (o .rust2) (word viewportWord r);
+      st = float sFloat r ∷ float tFloat r ∷ [];
+      texcoord = over (o .port3) (o .rust3) (word scaleWord r);
+      colour = word colourWord r;
+      light = word lightWord r;
+      count = word lightsWord r;
+      texgen = word texgenWord r;
+      fog = word fogWord r;
+      lookat = word lookatWord r;
+    }
+
+-- its lists, of all rows
+abbrev pub columns-of : Offsets → List Row → Columns
+columns-of o rs =
+    record {
+      raw-pos = map (λ (r : Row). made-of o r .pos) rs;
+      modify-flags = map (λ (r : Row). made-of o r .flags) rs;
+      modify-screen = map (λ (r : Row). made-of o r .screen) rs;
+      mtx-index = map (λ (r : Row). made-of o r .mtx) rs;
+      viewport-index = map (λ (r : Row). made-of o r .viewport) rs;
+      raw-st = map (λ (r : Row). made-of o r .st) rs;
+      texcoord-index = map (λ (r : Row). made-of o r .texcoord) rs;
+      cn = map (λ (r : Row). made-of o r .colour) rs;
+      light-index = map (λ (r : Row). made-of o r .light) rs;
+      light-count = map (λ (r : Row). made-of o r .count) rs;
+      texgen-mode = map (λ (r : Row). made-of o r .texgen) rs;
+      fog = map (λ (r : Row). made-of o r .fog) rs;
+      lookat-index = map (λ (r : Row). made-of o r .lookat) rs;
+    }
+
+-- a row whole, whose entries of tables 2 and 3 came at the point or since
+pub record Since (o : Offsets) (r : Row) : Type 0 where
+  pub floats : length (r .floats) ≡ floatWidth
+  pub words : length (r .words) ≡ wordWidth
+  pub viewport : o .port2 ≤ word viewportWord r
+  pub scale : o .port3 ≤ word scaleWord r
+
+-- every row is such a one, and the lists of the scene hold their numbers of all rows
 pub record RowsSame (o : Offsets) (rs : List Row) (c : Columns) : Type 0 where
-  pub nine : (i : ℕ) → i < length rs → length (getD rs i (record { floats = []; words = [] }) .floats) ≡ 9
-  pub ten : (i : ℕ) → i < length rs → length (getD rs i (record { floats = []; words = [] }) .words) ≡ 10
-  -- a row's entries of tables 2 and 3 came at the point or since
-  pub since2 : (i : ℕ) → i < length rs → o .port2 ≤ word 2 (getD rs i (record { floats = []; words = [] }))
-  pub since3 : (i : ℕ) → i < length rs → o .port3 ≤ word 3 (getD rs i (record { floats = []; words = [] }))
-  pub raw-pos : c .raw-pos ≡ map (λ (r : Row). float 0 r ∷ float 1 r ∷ float 2 r ∷ []) rs
-  pub raw-st : c .raw-st ≡ map (λ (r : Row). float 3 r ∷ float 4 r ∷ []) rs
-  pub modify-screen : c .modify-screen ≡ map (λ (r : Row). float 5 r ∷ float 6 r ∷ float 7 r ∷ float 8 r ∷ []) rs
-  pub modify-flags : c .modify-flags ≡ map (word 0) rs
-  pub mtx-index : c .mtx-index ≡ map (word 1) rs
-  pub viewport-index : c .viewport-index ≡ map (λ (r : Row). over (o .port2) (o .rust2) (word 2 r)) rs
-  pub texcoord-index : c .texcoord-index ≡ map (λ (r : Row). over (o .port3) (o .rust3) (word 3 r)) rs
-  pub cn : c .cn ≡ map (word 4) rs
-  pub light-index : c .light-index ≡ map (word 5) rs
-  pub light-count : c .light-count ≡ map (word 6) rs
-  pub texgen-mode : c .texgen-mode ≡ map (word 7) rs
-  pub fog : c .fog ≡ map (word 8) rs
-  pub lookat-index : c .lookat-index ≡ map (word 9) rs
+  pub each : (i : ℕ) → i < length rs → Since o (getD rs i noRow)
+  pub columns : c ≡ columns-of o rs
 
 -- a run's eight numbers
 abbrev pub runNumbers : DrawRun → List ℕ
@@ -198,25 +230,48 @@ RecordedSame k c =
       light-table : k .lights .used ≡ map joined (c .lights-table);
       lookat-table : k .lookats .used ≡ map joined (c .lookat-table);
       fog-table : k .fogs .used ≡ c .fog-table;
-      fog-pairs : Wide 2 (c .fog-table);
+      fog-pairs : Wide fogWidth (c .fog-table);
       indices : k .indices .used ≡ map (λ (i : ℕ). i ∷ []) (c .indices);
       runs : k .runs .used ≡ map runNumbers (c .draw-runs);
     }
 
--- ---- the whole, over what is said of the parts that begin differently: whether the matrix is defined (D), geometry mode (G), viewport (P), scales (X), rows (R)
+-- ---- the whole, in groups by what changes together, over what is said of the parts that begin differently: whether the matrix is defined (D),
+-- geometry mode (G), viewport (P), scales (X), rows (R)
 
+-- settings, lights and lookat
+abbrev pub ModesSame : (ℕ → ℕ → Type 0) → State → World → Type 0
+ModesSame G s w =
+    record {
+      settings : SettingsSame G s w;
+      lights : LightsSame (s .lights) (w .rsp .lighting);
+      lookat : LookSame (s .lookat) (w .rsp .looking);
+    }
+
+-- matrices, whether the combined one is defined, viewport
+abbrev pub SpaceSame : (Bool → Bool → Type 0) → (List Float → List (List Float) → Viewports → Type 0) → Book → World → Type 0
+SpaceSame D P k w =
+    record {
+      matrices : MatrixSame (k .state .depth) (k .state .stack) (k .state .projection) (k .state .combined) (k .matrices .used) (w .rsp .matrices);
+      defined : D (k .state .defined) (w .rsp .matrices .mvp-valid);
+      view : P (k .state .viewport) (k .viewports .used) (w .rsp .viewports);
+    }
+
+-- slots, scales, rows, and the other tables
+abbrev pub HeldSame : (ℕ → List (List Float) → Texcoords → Type 0) → (List Row → Columns → Type 0) → Book → World → Type 0
+HeldSame X R k w =
+    record {
+      slots : SlotsSame (k .state .row) (k .state .loaded) (k .state .drawn) (k .state .coded) (k .state .code) (k .state .deep) (k .state .z) (w .rsp .slots);
+      scales : X (k .state .unit) (k .scales .used) (w .rsp .texcoords);
+      rows : R (k .rows .used) (w .scene .columns);
+      recorded : RecordedSame k (w .scene);
+    }
+
+-- each count is the length of what is in use, and each group is the same
 pub record Near (D : Bool → Bool → Type 0) (G : ℕ → ℕ → Type 0) (P : List Float → List (List Float) → Viewports → Type 0) (X : ℕ → List (List Float) → Texcoords → Type 0) (R : List Row → Columns → Type 0) (k : Book) (w : World) : Type 0 where
   pub count : Counted k
-  pub settings : SettingsSame G (k .state) w
-  pub matrices : MatrixSame (k .state .depth) (k .state .stack) (k .state .projection) (k .state .combined) (k .matrices .used) (w .rsp .matrices)
-  pub defined : D (k .state .defined) (w .rsp .matrices .mvp-valid)
-  pub view : P (k .state .viewport) (k .viewports .used) (w .rsp .viewports)
-  pub lights : LightsSame (k .state .lights) (w .rsp .lighting)
-  pub lookat : LookSame (k .state .lookat) (w .rsp .looking)
-  pub slots : SlotsSame (k .state .row) (k .state .loaded) (k .state .drawn) (k .state .coded) (k .state .code) (k .state .deep) (k .state .z) (w .rsp .slots)
-  pub scales : X (k .state .unit) (k .scales .used) (w .rsp .texcoords)
-  pub rows : R (k .rows .used) (w .scene .columns)
-  pub recorded : RecordedSame k (w .scene)
+  pub modes : ModesSame G (k .state) w
+  pub space : SpaceSame D P k w
+  pub held : HeldSame X R k w
 
 -- THE TWO SIDES ARE THE SAME, from the offsets on
 abbrev pub Same : Offsets → Book → World → Type 0
@@ -224,8 +279,41 @@ Same o k w = Near _≡_ _≡_ (ViewSame (o .port2) (o .rust2)) (ScaleSame (o .po
 
 -- ---- corners as shown
 
+-- a corner as the original's scene has it: no number of a table is in it
+pub record RustCorner : Type 0 where
+  -- position x y z, s, t, four screen numbers
+  pub floats : List Float
+  -- modify flags
+  pub flags : ℕ
+  pub matrix : List Float
+  pub viewport : List Float
+  pub scale : List Float
+  -- colour word
+  pub colour : ℕ
+  pub lights : List (List Float)
+  -- texgen mode
+  pub texgen : ℕ
+  pub fog : Option (List ℤ)
+  pub lookat : Option (List Float)
+
+-- what of our corner is compared: what a corner has beyond these is ours alone and is left aside; today nothing is
+abbrev pub compared : Corner → RustCorner
+compared c =
+    record {
+      floats = c .floats;
+      flags = c .flags;
+      matrix = c .matrix;
+      viewport = c .viewport;
+      scale = c .scale;
+      colour = c .colour;
+      lights = c .lights;
+      texgen = c .texgen;
+      fog = c .fog;
+      lookat = c .lookat;
+    }
+
 -- what an element of each list shows: each number replaced by the entry's values
-unfoldable pub seen : World → Made → Corner
+unfoldable pub seen : World → Made → RustCorner
 seen w m =
     record {
       floats = m .pos ++ m .st ++ m .screen;
@@ -242,4 +330,4 @@ seen w m =
 
 -- every row in use shows the same corner on both sides
 abbrev pub CornersSame : Book → World → Type 0
-CornersSame k w = (i : ℕ) → i < length (k .rows .used) → shown (entriesOf k) (getD (k .rows .used) i noRow) ≡ seen w (made-at (w .scene .columns) i)
+CornersSame k w = (i : ℕ) → i < length (k .rows .used) → compared (shown (entriesOf k) (getD (k .rows .used) i noRow)) ≡ seen w (made-at (w .scene .columns) i)
