@@ -9,7 +9,7 @@ use lib.Dec.{leb}
 use borrow.Author.Tests.{leb-true}
 use Rattle.areas.specs.Area.{room}
 use Rattle.areas.specs.Widths.{matrixWidth, viewportWidth}
-use Rattle.decide.specs.Family.{Family}
+use Rattle.decide.specs.declared.family.Family.{Family}
 use Rattle.change.specs.declared.Asked.{Asked}
 use Rattle.change.specs.declared.Asked.the-variants.{Known, Unknown}
 use Rattle.change.specs.Decoded.{decoded}

@@ -4,7 +4,7 @@ use Prim.Native.Nat.{ℕ, _/_, _≤_, _<_}
 use mathlib.Core.Path.{_≡_}
 use mathlib.Core.List.{List, [], _++_}
 use lib.ListN.{getD}
-use Rattle.decide.specs.Family.{Family}
+use Rattle.decide.specs.declared.family.Family.{Family}
 use Rattle.stage.specs.declared.State.{State}
 use Rattle.sequence.specs.Sequence.{Command, Areas, Port, Machine, Alike, book, plan, run, opening}
 use Rattle.finished.specs.Shown.{Triangle, triangleAt}

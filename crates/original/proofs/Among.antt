@@ -32,5 +32,5 @@ among-refusals l o p cs h d =
     let q : Port = run stage (prologue p) (opening l) in
     let ds : List Command = accepted stage cs q in (
       equals-original l o p ds h (done-append (prologue p) ds (opening l) d (accepted-done cs q)),
-      run-append f3dex2 256 (prologue p) ds (opening l) ∙ passed-over stage cs q ∙ sym (run-append f3dex2 256 (prologue p) cs (opening l)),
+      run-append (λ _. f3dex2) (λ _. 256) (prologue p) ds (opening l) ∙ passed-over stage cs q ∙ sym (run-append (λ _. f3dex2) (λ _. 256) (prologue p) cs (opening l)),
     )

@@ -174,5 +174,5 @@ not-empty =
       commands = further;
       within = within;
       done = on-port every (opening lent) (o .0) (subst (DoneFrom every) (sym (o .1)) (all-done-is every (opened-book lent) (computed .0)));
-      triangles = ap (λ (k : Book). length (k .indices .used)) (run-book f3dex2 256 every (opening lent) (o .0) .1 ∙ ap (course stage every) (o .1)) ∙ computed .1;
+      triangles = ap (λ (k : Book). length (k .indices .used)) (run-book (λ _. f3dex2) (λ _. 256) every (opening lent) (o .0) .1 ∙ ap (course stage every) (o .1)) ∙ computed .1;
     }

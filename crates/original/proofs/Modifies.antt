@@ -368,7 +368,7 @@ module _ {D : Bool → Bool → Type 0} {G : ℕ → ℕ → Type 0} {P : List F
       rw (accepts, row-is, made-so n _, made-so i _, used, split (getD (k .state .drawn) slot false)) (refl, modified)
 
 pub modify-agrees : {D : Bool → Bool → Type 0} {G : ℕ → ℕ → Type 0} {P : List Float → List (List Float) → Viewports → Type 0} {o : Offsets} {k : Book} {w : World} → Near D G P (ScaleSame (o .port3) (o .rust3)) (RowsSame o) k w → (slot attribute value : ℕ) → value < 4294967296
-    → Accepted (λ vs t e. Agrees (Near D G P (ScaleSame (o .port3) (o .rust3)) (RowsSame o)) vs (enter t e k) (execute (modify slot attribute value) w)) (plan f3dex2 256 (modify slot attribute value) k)
+    → Accepted (λ vs t e. Agrees (Near D G P (ScaleSame (o .port3) (o .rust3)) (RowsSame o)) vs (enter t e k) (execute (modify slot attribute value) w)) (plan (λ _. f3dex2) (λ _. 256) (modify slot attribute value) k)
 unfolding plan
 modify-agrees {D} {G} {P} {o} {k} {w} N slot attribute value small =
     on-modify _ 256 (k .state) (k .scales) (k .rows) slot attribute value (λ c a inside lo below _. modify-owes N slot attribute value small c a inside lo below)

@@ -142,7 +142,7 @@ equals-original l o p cs h d =
     let b = open-book l (o .0) (o .1) in
     let k = on-books (prologue p ++ cs) (opening l) (b .0) d in
     let f = begins l p cs h (subst (DoneFrom (prologue p ++ cs)) (b .1) (k .0)) in
-    let m = subst (λ (k : Book). Met k (f .walked .world)) (sym (run-book f3dex2 256 (prologue p ++ cs) (opening l) (b .0) .1 ∙ ap (course stage (prologue p ++ cs)) (b .1))) (f .after) in
+    let m = subst (λ (k : Book). Met k (f .walked .world)) (sym (run-book (λ _. f3dex2) (λ _. 256) (prologue p ++ cs) (opening l) (b .0) .1 ∙ ap (course stage (prologue p ++ cs)) (b .1))) (f .after) in
     record {
       walked = f .walked;
       is = f .is;

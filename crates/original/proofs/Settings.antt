@@ -168,7 +168,7 @@ map-replicate {A} {B} g (suc n) x = ap (λ (t : List B). g x ∷ t) (map-replica
 module _ {D : Bool → Bool → Type 0} {G : ℕ → ℕ → Type 0} {P : List Float → List (List Float) → Viewports → Type 0} {X : ℕ → List (List Float) → Texcoords → Type 0} {R : List Row → Columns → Type 0} {k : Book} {w : World} (N : Near D G P X R k w) where
   -- what is to be shown of a command
   abbrev Owes : (Bool → Bool → Type 0) → (ℕ → ℕ → Type 0) → Command → Type 0
-  Owes D′ G′ c = Accepted (λ vs t e. Agrees (Near D′ G′ P X R) vs (enter t e k) (execute c w)) (plan f3dex2 256 c k)
+  Owes D′ G′ c = Accepted (λ vs t e. Agrees (Near D′ G′ P X R) vs (enter t e k) (execute c w)) (plan (λ _. f3dex2) (λ _. 256) c k)
 
   pub texture-agrees : (tile level : ℕ) (on : Bool) (sc tc : ℕ) → (sc < 65536) × (tc < 65536) → Owes D G (texture tile level on sc tc)
   unfolding plan texturePlan execute

@@ -216,7 +216,7 @@ module _ (bytes : List ℕ) (at : ℕ) (I : Data bytes) (n : at + 16 ≤ length 
           two-triples (suc (suc i)) h = absurd (omega arith)
 
 pub viewport-begins : {D : Bool → Bool → Type 0} {G : ℕ → ℕ → Type 0} {X : ℕ → List (List Float) → Texcoords → Type 0} {R : List Row → Columns → Type 0} {k : Book} {w : World} → Near D G View0 X R k w → (bytes : List ℕ) (at : ℕ) → Data bytes
-    → Accepted (λ vs t e. Agrees (Near D G (ViewSame (port-before bytes at) (rust-before bytes at)) X R) vs (enter t e k) (execute (viewport bytes at) w)) (plan f3dex2 256 (viewport bytes at) k)
+    → Accepted (λ vs t e. Agrees (Near D G (ViewSame (port-before bytes at) (rust-before bytes at)) X R) vs (enter t e k) (execute (viewport bytes at) w)) (plan (λ _. f3dex2) (λ _. 256) (viewport bytes at) k)
 unfolding plan execute
 viewport-begins {D} {G} {X} {R} {k} {w} N bytes at I =
     on-viewport _ (k .state) (k .viewports) bytes at

@@ -53,7 +53,7 @@ IsDone (does vs t e) = Unit {0}
 
 -- the stage, F3DEX2's flags and 256 slots
 abbrev pub stage : Command → Book → Plan
-stage c k = plan f3dex2 256 c k
+stage c k = plan (λ _. f3dex2) (λ _. 256) c k
 
 -- the stage accepts each command, one after the other
 abbrev pub AllDone : List Command → Port → Type 0

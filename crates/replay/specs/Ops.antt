@@ -28,7 +28,7 @@ on c k x y = pick (eqb (c .op) k) x y
 
 -- a command of the stage
 abbrev pub by : Command → Port → Outcome Areas
-by m p = result (plan f3dex2 256) m p
+by m p = result (plan (λ _. f3dex2) (λ _. 256)) m p
 
 -- an opening on the port's areas, whatever its state
 abbrev pub opens : Port → Outcome Areas

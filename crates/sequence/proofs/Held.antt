@@ -10,7 +10,7 @@ use lib.Ieee.{Float}
 use Rattle.areas.specs.Area.{entries, room}
 use Rattle.areas.proofs.Tables.{length-entries, length-write, entries-grow, entries-set}
 use Rattle.areas.specs.Widths.{matrixWidth, viewportWidth, scaleWidth, lightWidth, lookatWidth, fogWidth, floatWidth, wordWidth, indexWidth, runWidth}
-use Rattle.decide.specs.Family.{Family}
+use Rattle.decide.specs.declared.family.Family.{Family}
 use Rattle.stage.specs.declared.State.{State}
 use Rattle.stage.specs.Plan.{table, Edit, keep, grow, patch, Row, rowsOf, rowTable, rowFloats, rowWords, only, Edits, Plan, refuse, does, more, counted, advance, after, carry}
 use Rattle.stage.specs.With.{withCounts}

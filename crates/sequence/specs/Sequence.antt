@@ -8,7 +8,7 @@ use lib.ListN.{length}
 use lib.IntN.{ℤ}
 use lib.Ieee.{Float}
 use Rattle.areas.specs.Widths.{matrixWidth, viewportWidth, scaleWidth, lightWidth, lookatWidth, fogWidth, floatWidth, wordWidth, indexWidth, runWidth}
-use Rattle.decide.specs.Family.{Family}
+use Rattle.decide.specs.declared.family.Family.{Family}
 use Rattle.decide.specs.Lights.{lightNumber}
 use Rattle.stage.specs.declared.State.{State}
 use Rattle.stage.specs.declared.Counts.{Counts}
