@@ -17,9 +17,10 @@ use Rattle.change.specs.declared.Change.the-variants.{Colour, Texture, Screen, 
 use Rattle.change.specs.declared.Asked.the-variants.{Known}
 use Rattle.change.specs.declared.judge.Moved.{Moved}
 use Rattle.change.specs.Decoded.{floatsAfter}
-use Rattle.change.specs.Judged.{unitEntry, appends, comesTo}
+use Rattle.change.specs.Decoded.{unitEntry, appends}
+use Rattle.stage.specs.Modify.{moved}
 use Rattle.stage.specs.Plan.{Row, Edit, keep, grow, pick}
-use Rattle.stage.specs.Modify.{edits37, slotOf, tablesOf, scaleEdit, rowAfter, rowEdit, rowChange, changed}
+use Rattle.stage.specs.Modify.{edits37, scaleEdit, rowAfter, rowEdit, rowChange, changed}
 use Rattle.sequence.specs.Sequence.{Book}
 use Rattle.sequence.proofs.Turn.{edit, enter}
 use Rattle.finished.specs.Shown.{Entries, entriesOf, shown, shownBy, rowWord, noRow}
@@ -145,7 +146,7 @@ module _ (c : Change) (u n : ℕ) (ss : List (List Float)) (ne : length ss ≡ n
 
 module _ (limit seats : ℕ) (k : Book) (h : Bench) (I : Inv seats k h) (slot : ℕ) (c : Change) (inside : slot < seats) (lo : getD (k .state .loaded) slot false ≡ true) where
   abbrev m : Moved
-  m = comesTo c (slotOf limit (k .state) slot) (tablesOf (k .state) (k .scales) (k .rows))
+  m = moved c (k .state) slot
 
   -- the row of the slot, before and after
   abbrev i : ℕ
@@ -179,7 +180,7 @@ module _ (limit seats : ℕ) (k : Book) (h : Bench) (I : Inv seats k h) (slot : 
 
   -- the unit entry then
   unit-at : UnitAt t (m .unit) c
-  unfolding comesTo
+  unfolding moved
   unit-at e =
       let u = I .ties .current .unit in
       unit-then c (k .state .unit) (k .state .counts .scales) (k .scales .used) (I .count .scales) u (needs-unit c (k .state .unit) (k .state .counts .scales) (k .scales .used) (I .count .scales) u e)
@@ -203,7 +204,7 @@ module _ (limit seats : ℕ) (k : Book) (h : Bench) (I : Inv seats k h) (slot : 
       (set (h .slots) slot (changedBy c (getD (h .slots) slot noCorner))) (h .triangles)
 
   standing-then : Then (rowChange c m (k .state) (k .rows) slot) (m .row)
-  unfolding comesTo pick
+  unfolding moved pick
   standing-then = go (getD (k .state .drawn) slot false) refl
     where
       go : (b : Bool) → getD (k .state .drawn) slot false ≡ b → Then (rowEdit b i r′) (cond b (k .state .counts .rows) i)
@@ -215,7 +216,7 @@ module _ (limit seats : ℕ) (k : Book) (h : Bench) (I : Inv seats k h) (slot : 
 
   -- the values that the bench holds then
   current-then : CurrentIn t (partsOf (changed c m (k .state) slot)) (modifies (Known c) slot h .values)
-  unfolding comesTo changed modifies
+  unfolding moved changed modifies
   current-then =
       let o = I .ties .current in
       let a : scaled c && not (h .values .unit) ≡ appends c (k .state .unit) = ap (λ (b : Bool). scaled c && not b) (o .mark) ∙ appends-same c (k .state .unit) in

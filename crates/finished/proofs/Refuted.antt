@@ -11,18 +11,19 @@ use Rattle.matrix.specs.Clip.{codeOf, depthOf}
 use Rattle.layout.specs.Layout.{vertexAt, tripleAt}
 use Rattle.areas.specs.Area.{put, write, matches}
 use Rattle.areas.specs.Widths.{matrixWidth, viewportWidth, scaleWidth, floatWidth, wordWidth, indexWidth, runWidth}
-use Rattle.decide.specs.Family.{f3dex2, texgenMode}
+use Rattle.decide.specs.Family.{f3dex2, texgenMode, familyOf}
 use Rattle.fold.specs.Fog.{find}
 use Rattle.fold.specs.Scales.{sameScale}
 use Rattle.fold.specs.Decision.{refold}
 use Rattle.vertex.specs.Vertices.{floatsOf, wordsOf, clipOf, slotAt, slotOf, verticesAt}
 use Rattle.change.specs.Decoded.{decoded, floatsAfter, wordsAfter, depthAfter}
-use Rattle.change.specs.Judged.{appends, comesTo}
+use Rattle.change.specs.Decoded.{appends}
+use Rattle.stage.specs.Modify.{moved}
 use Rattle.triangle.specs.Run.{closed, sameRun}
 use Rattle.triangle.specs.Slot.{held}
 use Rattle.stage.specs.declared.settings.Microcode.the-variants.{F3dex2}
 use Rattle.stage.specs.Plan.{pick, unless, carry, appended, appending}
-use Rattle.stage.specs.Sound.{all, stateSound}
+use Rattle.stage.specs.Sound.{all, stateSound, limit}
 use Rattle.stage.specs.Opening.{zeros, blank, openingPlan}
 use Rattle.stage.specs.Opening as start
 use Rattle.stage.specs.Load.{settled, settledState, sharedBy, loadEdits, loadPlan}
@@ -65,7 +66,7 @@ recoloured slot = modify slot 0x10 7
 
 -- the machine under the rules r is finished
 abbrev AllFinished : (Book → Rules) → Type 0
-AllFinished r = (x y : Areas) → Alike x y → (cs ds es : List Command) (n : ℕ) → Finished (λ _. f3dex2) (under r (plan (λ _. f3dex2) (λ _. 256))) 256 x y cs ds es n
+AllFinished r = (x y : Areas) → Alike x y → (cs ds es : List Command) (n : ℕ) → Finished (λ _. f3dex2) (under r (plan familyOf limit)) 256 x y cs ds es n
 
 -- the colour of a corner, and the material, of a triangle
 abbrev colourOf : ℕ → Triangle → ℕ
@@ -80,7 +81,7 @@ alike =
 
 -- THE THEOREM IS FALSE OF EACH: it refuses all five
 pub refuted : (AllFinished inPlace → ⊥) × (AllFinished keepsLoaded → ⊥) × (AllFinished marksTwo → ⊥) × (AllFinished sharesRow → ⊥) × (AllFinished mergesRuns → ⊥)
-unfolding inPlace keepsLoaded marksTwo sharesRow mergesRuns areas loaded drawn recoloured under plan result step run opening book shown shownBy settingsAt cornerOf triangleOf bench0 settledValues corner changedBy modifies act obey bench ofRatio rowTimes times rows laid codeOf depthOf vertexAt tripleAt put write matches texgenMode find sameScale refold floatsOf wordsOf clipOf slotAt slotOf verticesAt decoded floatsAfter wordsAfter depthAfter appends comesTo closed sameRun held pick unless carry appended appending all stateSound blank openingPlan start.opened settled settledState sharedBy loadEdits loadPlan switched microcodePlan fillSlot fillSlots asking changed changePlan modifyPlan runEdit drawPlan add mul div neg lt le eq ne
+unfolding inPlace keepsLoaded marksTwo sharesRow mergesRuns areas loaded drawn recoloured under plan result step run opening book shown shownBy settingsAt cornerOf triangleOf bench0 settledValues corner changedBy modifies act obey bench ofRatio rowTimes times rows laid codeOf depthOf vertexAt tripleAt put write matches texgenMode find sameScale refold floatsOf wordsOf clipOf slotAt slotOf verticesAt decoded floatsAfter wordsAfter depthAfter appends moved closed sameRun held pick unless carry appended appending all stateSound blank openingPlan start.opened settled settledState sharedBy loadEdits loadPlan switched microcodePlan fillSlot fillSlots asking changed changePlan modifyPlan runEdit drawPlan add mul div neg lt le eq ne
 refuted = (
   λ h. let q : _≡_ {A = ℕ} 0x07000000 0 = ap (colourOf 1) (h areas areas alike (loaded ∷ drawn 0 ∷ []) (recoloured 1 ∷ []) [] 0 (omega arith) .0 .shows) in omega (arith, q),
   λ h. let q : _≡_ {A = ℕ} 0x07000000 0 = ap (colourOf 1) (h areas areas alike (loaded ∷ drawn 0 ∷ []) (microcode F3dex2 ∷ recoloured 1 ∷ []) [] 0 (omega arith) .0 .shows) in omega (arith, q),

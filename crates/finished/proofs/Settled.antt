@@ -22,7 +22,8 @@ use Rattle.fold.proofs.Believe.{find-first}
 use Rattle.stage.specs.declared.Lights.{Lights}
 use Rattle.stage.specs.declared.Lookat.{Lookat}
 use Rattle.stage.specs.Plan.{Edit, pick, counted}
-use Rattle.stage.specs.Load.{onlyIf, foldedLights, foldedLookat}
+use Rattle.stage.specs.Plan.{onlyIf}
+use Rattle.stage.specs.With.{foldedLights, foldedLookat}
 use Rattle.sequence.proofs.Turn.{edit}
 use Rattle.finished.specs.Shown.{fogShown}
 use Rattle.finished.specs.Bench.{renewed, rescaled}

@@ -10,7 +10,7 @@ use lib.Dec.{eqb}
 use lib.Ieee.{Float, eq}
 use Rattle.areas.specs.Area.{matches}
 use Rattle.decide.specs.Append.{final}
-use Rattle.change.specs.Judged.{unitEntry}
+use Rattle.change.specs.Decoded.{unitEntry}
 use Rattle.stage.specs.declared.State.{State}
 use Rattle.stage.specs.declared.Counts.{Counts}
 use Rattle.stage.specs.declared.Lights.{Lights}

@@ -1,7 +1,8 @@
 -- Demand 2 with refused commands among the others. Assumes nothing.
 use mathlib.Core.Path.{_≡_, refl, sym, ap, _∙_, subst}
 use mathlib.Core.List.{List, [], _∷_, _++_}
-use Rattle.decide.specs.Family.{f3dex2}
+use Rattle.decide.specs.Family.{familyOf}
+use Rattle.stage.specs.Sound.{limit}
 use Rattle.stage.specs.Plan.{Plan, refuse, does, pick}
 use Rattle.sequence.specs.Sequence.{Command, Port, book, step, run, isDone, accepted, opening}
 use Rattle.sequence.proofs.Held.{run-append}
@@ -32,5 +33,5 @@ among-refusals l o p cs h d =
     let q : Port = run stage (prologue p) (opening l) in
     let ds : List Command = accepted stage cs q in (
       equals-original l o p ds h (done-append (prologue p) ds (opening l) d (accepted-done cs q)),
-      run-append (λ _. f3dex2) (λ _. 256) (prologue p) ds (opening l) ∙ passed-over stage cs q ∙ sym (run-append (λ _. f3dex2) (λ _. 256) (prologue p) cs (opening l)),
+      run-append familyOf limit (prologue p) ds (opening l) ∙ passed-over stage cs q ∙ sym (run-append familyOf limit (prologue p) cs (opening l)),
     )

@@ -9,8 +9,9 @@ use lib.Dec.{eqb, ltb}
 use lib.Ieee.{Float}
 use Rattle.areas.specs.Area.{put}
 use Rattle.areas.specs.Widths.{matrixWidth}
-use Rattle.decide.specs.Family.{f3dex2, flag}
+use Rattle.decide.specs.Family.{f3dex2, flag, familyOf}
 use Rattle.decide.specs.Stack.{made, pushed, popped}
+use Rattle.stage.specs.Sound.{limit}
 use Rattle.layout.specs.Layout.{matrixAt}
 use Rattle.matrix.specs.Math.{times, rows, laid}
 use Rattle.stage.specs.declared.State.{State}
@@ -93,7 +94,7 @@ module _ {D : Bool → Bool → Type 0} {G : ℕ → ℕ → Type 0} {P : List F
 
 module _ {D : Bool → Bool → Type 0} {G : ℕ → ℕ → Type 0} {P : List Float → List (List Float) → Viewports → Type 0} {X : ℕ → List (List Float) → Texcoords → Type 0} {R : List Row → Columns → Type 0} {k : Book} {w : World} (N : Near D G P X R k w) where
   abbrev Owes : Command → Type 0
-  Owes c = Accepted (λ vs t e. Agrees (Near _≡_ G P X R) vs (enter t e k) (execute c w)) (plan (λ _. f3dex2) (λ _. 256) c k)
+  Owes c = Accepted (λ vs t e. Agrees (Near _≡_ G P X R) vs (enter t e k) (execute c w)) (plan familyOf limit c k)
 
   -- edits entered with another state of the same counts
   entered : (s t : State) (e : Edits) → s .counts ≡ k .state .counts → enter t e (withState k s) ≡ enter t e k
@@ -201,7 +202,7 @@ module _ {D : Bool → Bool → Type 0} {G : ℕ → ℕ → Type 0} {P : List F
           }
 
   -- an idle pop leaves the mark of the matrix as it is; any other defines it
-  pub pop-agrees : ((a b : Bool) → a ≡ b → D a b) → (count : ℕ) → Accepted (λ vs t e. Agrees (Near D G P X R) vs (enter t e k) (execute (pop count) w)) (plan (λ _. f3dex2) (λ _. 256) (pop count) k)
+  pub pop-agrees : ((a b : Bool) → a ≡ b → D a b) → (count : ℕ) → Accepted (λ vs t e. Agrees (Near D G P X R) vs (enter t e k) (execute (pop count) w)) (plan familyOf limit (pop count) k)
   unfolding plan execute pop-matrix
   pop-agrees weaker count =
       on-pop _ (k .state) (k .matrices) count

@@ -11,7 +11,8 @@ use lib.Ieee.{Float}
 use Rattle.areas.specs.Area.{matches}
 use Rattle.areas.specs.Widths.{settingsWide}
 use Rattle.decide.specs.Append.{final}
-use Rattle.decide.specs.Family.{f3dex2}
+use Rattle.decide.specs.Family.{f3dex2, familyOf}
+use Rattle.stage.specs.Sound.{limit}
 use Rattle.triangle.specs.Run.{unclipped, settings, runOf, longer, sameRun}
 use Rattle.triangle.specs.Slot.{bit, corners, both, culls, swaps}
 use Rattle.stage.specs.declared.settings.Microcode.{Microcode}
@@ -133,7 +134,7 @@ turned-same row true a b c = refl
 turned-same row false a b c = refl
 
 pub draw-agrees : {D : Bool → Bool → Type 0} {P : List Float → List (List Float) → Viewports → Type 0} {X : ℕ → List (List Float) → Texcoords → Type 0} {R : List Row → Columns → Type 0} {k : Book} {w : World} → Near D _≡_ P X R k w → (a b c material mode colour prim : ℕ)
-    → Accepted (λ vs t e. Agrees (Near D _≡_ P X R) vs (enter t e k) (execute (draw a b c material mode colour prim) w)) (plan (λ _. f3dex2) (λ _. 256) (draw a b c material mode colour prim) k)
+    → Accepted (λ vs t e. Agrees (Near D _≡_ P X R) vs (enter t e k) (execute (draw a b c material mode colour prim) w)) (plan familyOf limit (draw a b c material mode colour prim) k)
 unfolding plan execute draw-tri
 draw-agrees {D} {P} {X} {R} {k} {w} N a b c material mode colour prim =
     on-draw _ f3dex2 256 (k .state) (k .indices) (k .runs) a b c (material ∷ mode ∷ colour ∷ prim ∷ [])

@@ -3,7 +3,8 @@ use mathlib.Core.Path.{_≡_, refl, sym, ap, ap₂, _∙_, subst}
 use Prim.Native.Nat.{ℕ}
 use mathlib.Core.List.{List, [], _∷_}
 use Rattle.decide.specs.Stack.{geometryAfter, relit}
-use Rattle.decide.specs.Family.{f3dex2}
+use Rattle.decide.specs.Family.{f3dex2, familyOf}
+use Rattle.stage.specs.Sound.{limit}
 use Rattle.stage.specs.declared.State.{State}
 use Rattle.stage.specs.Plan.{Plan, refuse, does, Edits, carry}
 use Rattle.sequence.specs.Sequence.{Command, matrix, force, pop, viewport, geometry, texture, fog, number, light, lookat, microcode, load, cull, depth, modify, draw, ink, Port, Book, book, afterAll, result, step}
@@ -77,14 +78,14 @@ answer-tells c p = of (stage c (book p))
 pub on-books : (cs : List Command) (p : Port) → Fits p → AllDone cs p → DoneFrom cs (book p) × (told cs p ≡ tellings cs (book p))
 on-books [] p h d = (tt, refl)
 on-books (c ∷ cs) p h d =
-    let s = step-book (λ _. f3dex2) (λ _. 256) c p h in
+    let s = step-book familyOf limit c p h in
     let r = on-books cs (step stage c p) (s .0) (d .1) in
     ((d .0, subst (DoneFrom cs) (s .2) (r .0)), ap₂ (λ (a : List ℕ) (b : List (List ℕ)). a ∷ b) (answer-tells c p) (r .1 ∙ ap (tellings cs) (s .2)))
 
 -- and the other way round
 pub on-port : (cs : List Command) (p : Port) → Fits p → DoneFrom cs (book p) → AllDone cs p
 on-port [] p h d = tt
-on-port (c ∷ cs) p h d = let s = step-book (λ _. f3dex2) (λ _. 256) c p h in (d .0, on-port cs (step stage c p) (s .0) (subst (DoneFrom cs) (sym (s .2)) (d .1)))
+on-port (c ∷ cs) p h d = let s = step-book familyOf limit c p h in (d .0, on-port cs (step stage c p) (s .0) (subst (DoneFrom cs) (sym (s .2)) (d .1)))
 
 -- ---- one command
 

@@ -15,7 +15,7 @@ use Rattle.matrix.specs.Math.{rowTimes, colTimes, times, rows, laid}
 use Rattle.matrix.specs.Clip.{bitsOf, codeOf, screenOf, depthOf}
 use Rattle.layout.specs.Layout.{entryAt, rowAt, matrixAt, vertexAt, tripleAt, viewportAt, colourAt, directionAt, lightAt}
 use Rattle.areas.specs.Area.{put, write, matches, eqbℤ}
-use Rattle.decide.specs.Family.{texgenMode, f3dex2}
+use Rattle.decide.specs.Family.{texgenMode, familyOf}
 use Rattle.decide.specs.Lights.{slotted}
 use Rattle.decide.specs.Stack.{made, pushed, popped, relit}
 use Rattle.fold.specs.Direction.{folded}
@@ -26,11 +26,12 @@ use Rattle.fold.specs.Scales.{sameScale}
 use Rattle.fold.specs.Decision.{refold}
 use Rattle.vertex.specs.Vertices.{floatsOf, wordsOf, clipOf, slotAt, slotOf, verticesAt}
 use Rattle.change.specs.Decoded.{decoded, floatsAfter, wordsAfter, depthAfter}
-use Rattle.change.specs.Judged.{appends, comesTo}
+use Rattle.change.specs.Decoded.{appends}
+use Rattle.stage.specs.Modify.{moved}
 use Rattle.triangle.specs.Run.{closed, sameRun}
 use Rattle.triangle.specs.Slot.{held}
 use Rattle.stage.specs.Plan.{Plan, refuse, does, pick, unless, appended, appending}
-use Rattle.stage.specs.Sound.{all, stateSound}
+use Rattle.stage.specs.Sound.{all, stateSound, limit}
 use Rattle.stage.specs.Opening.{zeros, blank}
 use Rattle.stage.specs.Opening as start
 use Rattle.stage.specs.Matrices.{combine, turned, matrixPlan, popPlan, viewing, viewportPlan, geometryPlan}
@@ -145,7 +146,7 @@ abbrev end : Book
 end = course stage every (opened-book lent)
 
 computed : (all-done every (opened-book lent) ≡ true) × (length (end .indices .used) ≡ 6)
-unfolding toBits ofInt round add mul div neg lt le eq ne ofRatio isRatio root.step root.root root.rootBy root.rooted root.sqrt rowTimes colTimes times rows laid bitsOf codeOf screenOf depthOf entryAt rowAt matrixAt vertexAt tripleAt viewportAt colourAt directionAt lightAt put write matches eqbℤ texgenMode slotted made pushed popped relit folded lightEntry directional lightEntries lookatEntry find sameScale refold floatsOf wordsOf clipOf slotAt slotOf verticesAt decoded floatsAfter wordsAfter depthAfter appends comesTo closed sameRun held pick unless appended appending all stateSound blank start.opened combine turned matrixPlan popPlan viewing viewportPlan geometryPlan texturePlan fogPlan lightIn axisIn numberPlan ambientPlan slotPlan lightPlan lookatPlan settled settledState sharedBy loadEdits loadPlan fillSlot fillSlots asking changed changePlan modifyPlan runEdit drawPlan plan turn course
+unfolding toBits ofInt round add mul div neg lt le eq ne ofRatio isRatio root.step root.root root.rootBy root.rooted root.sqrt rowTimes colTimes times rows laid bitsOf codeOf screenOf depthOf entryAt rowAt matrixAt vertexAt tripleAt viewportAt colourAt directionAt lightAt put write matches eqbℤ texgenMode slotted made pushed popped relit folded lightEntry directional lightEntries lookatEntry find sameScale refold floatsOf wordsOf clipOf slotAt slotOf verticesAt decoded floatsAfter wordsAfter depthAfter appends moved closed sameRun held pick unless appended appending all stateSound blank start.opened combine turned matrixPlan popPlan viewing viewportPlan geometryPlan texturePlan fogPlan lightIn axisIn numberPlan ambientPlan slotPlan lightPlan lookatPlan settled settledState sharedBy loadEdits loadPlan fillSlot fillSlots asking changed changePlan modifyPlan runEdit drawPlan plan turn course
 computed = (refl, refl)
 
 infixr 4 _and_
@@ -174,5 +175,5 @@ not-empty =
       commands = further;
       within = within;
       done = on-port every (opening lent) (o .0) (subst (DoneFrom every) (sym (o .1)) (all-done-is every (opened-book lent) (computed .0)));
-      triangles = ap (λ (k : Book). length (k .indices .used)) (run-book (λ _. f3dex2) (λ _. 256) every (opening lent) (o .0) .1 ∙ ap (course stage every) (o .1)) ∙ computed .1;
+      triangles = ap (λ (k : Book). length (k .indices .used)) (run-book familyOf limit every (opening lent) (o .0) .1 ∙ ap (course stage every) (o .1)) ∙ computed .1;
     }

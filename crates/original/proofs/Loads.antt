@@ -15,7 +15,8 @@ use Rattle.areas.specs.Widths.{fogWidth}
 use Rattle.layout.specs.declared.records.Vertex.{Vertex}
 use Rattle.matrix.specs.Math.{at, rows, laid}
 use Rattle.decide.specs.Append.{final}
-use Rattle.decide.specs.Family.{f3dex2, flag, lit, texgenMode}
+use Rattle.decide.specs.Family.{f3dex2, flag, lit, texgenMode, familyOf}
+use Rattle.stage.specs.Sound.{limit}
 use Rattle.fold.specs.Scales.{scaleEntry, sameScale}
 use Rattle.vertex.specs.declared.Shared.{Shared}
 use Rattle.vertex.specs.Vertices.{slotOf, verticesAt}
@@ -24,7 +25,8 @@ use Rattle.stage.specs.declared.load.Settled.{Settled}
 use Rattle.stage.specs.Plan.{Row, pick, counted}
 use Rattle.stage.specs.Matrices.{modelTop}
 use Rattle.stage.specs.With.{withSlots, slotsOf}
-use Rattle.stage.specs.Load.{onlyIf, lightsThen, lookatThen, settled, settledState, sharedBy, vertexRow, loadEdits}
+use Rattle.stage.specs.Load.{lightsThen, lookatThen, settled, settledState, sharedBy, vertexRow, loadEdits}
+use Rattle.stage.specs.Plan.{onlyIf}
 use Rattle.stage.specs.Rows.{fillSlot, fillSlots}
 use Rattle.sequence.specs.Sequence.{load, Book, loadOf, plan}
 use Rattle.sequence.proofs.Turn.{edit, enter}
@@ -330,12 +332,12 @@ module _ {X : ℕ → List (List Float) → Texcoords → Type 0} {R : List Row 
 pub load-scaled : {X : ℕ → List (List Float) → Texcoords → Type 0} {R : List Row → Columns → Type 0} {o : Offsets} {k : Book} {w : World} → Near _≡_ _≡_ (ViewSame (o .port2) (o .rust2)) X R k w
     → Scaled (o .port3) (o .rust3) (k .state .unit) (edit (onlyIf (not (sameScale (k .scales .used) (scaleEntry (w .rsp .texture-state .sc) (w .rsp .texture-state .tc)))) (scaleEntry (w .rsp .texture-state .sc) (w .rsp .texture-state .tc) ∷ [])) (k .scales .used)) (texcoords-then (w .rsp .texture-state) (w .rsp .texcoords))
     → RowsSame o (k .rows .used) (w .scene .columns) → (first count : ℕ) (bytes : List ℕ) (at : ℕ) → Data bytes
-    → Accepted (λ vs t e. Agrees (Same o) vs (enter t e k) (execute (load first count bytes at) w)) (plan (λ _. f3dex2) (λ _. 256) (load first count bytes at) k)
+    → Accepted (λ vs t e. Agrees (Same o) vs (enter t e k) (execute (load first count bytes at) w)) (plan familyOf limit (load first count bytes at) k)
 unfolding plan
 load-scaled {X} {R} {o} {k} {w} N sc rs first count bytes p I =
     on-load _ f3dex2 256 (k .state) (loadOf k) first count bytes p (λ _ n _. load-owes N sc rs first count bytes p I n)
 
 -- a load of the domain
 pub load-agrees : {o : Offsets} {k : Book} {w : World} → Same o k w → (first count : ℕ) (bytes : List ℕ) (at : ℕ) → Data bytes
-    → Accepted (λ vs t e. Agrees (Same o) vs (enter t e k) (execute (load first count bytes at) w)) (plan (λ _. f3dex2) (λ _. 256) (load first count bytes at) k)
+    → Accepted (λ vs t e. Agrees (Same o) vs (enter t e k) (execute (load first count bytes at) w)) (plan familyOf limit (load first count bytes at) k)
 load-agrees {o} {k} {w} N first count bytes p I = load-scaled N (scales-loaded (N .held .scales) (w .rsp .texture-state) (N .modes .settings .small .0) (N .modes .settings .small .1)) (N .held .rows) first count bytes p I

@@ -16,17 +16,19 @@ use borrow.Author.Tests.{ltb-true, ltb-false, lt-leb, eqb-true, eqb-false, ne-eq
 use Rattle.areas.specs.Widths.{viewportWord, scaleWord}
 use Rattle.numbers.specs.Ratio.{ofRatio}
 use Rattle.matrix.specs.Math as math
-use Rattle.decide.specs.Family.{f3dex2}
+use Rattle.decide.specs.Family.{familyOf}
+use Rattle.stage.specs.Sound.{limit}
 use Rattle.change.specs.declared.Change.{Change}
 use Rattle.change.specs.declared.Change.the-variants.{Colour, Texture, Screen, Depth}
 use Rattle.change.specs.declared.Asked.{Asked}
 use Rattle.change.specs.declared.Asked.the-variants.{Known, Unknown}
 use Rattle.change.specs.declared.judge.Moved.{Moved}
 use Rattle.change.specs.Decoded.{reversed, highBy, lowBy, decoded, floatsAfter, wordsAfter, depthAfter}
-use Rattle.change.specs.Judged.{unitEntry, appends, comesTo}
+use Rattle.change.specs.Decoded.{unitEntry, appends}
+use Rattle.stage.specs.Modify.{moved}
 use Rattle.change.proofs.Kept.{floats-kept, words-kept}
 use Rattle.stage.specs.Plan.{Row, Edits, keep, grow, pick}
-use Rattle.stage.specs.Modify.{edits37, slotOf, tablesOf, scaleEdit, rowAfter, rowEdit, rowChange, changed}
+use Rattle.stage.specs.Modify.{edits37, scaleEdit, rowAfter, rowEdit, rowChange, changed}
 use Rattle.sequence.specs.Sequence.{modify, Book, plan}
 use Rattle.sequence.proofs.Turn.{edit, enter}
 use Rattle.sequence.proofs.Accepts.{Accepted, on-modify}
@@ -286,7 +288,7 @@ module _ {D : Bool → Bool → Type 0} {G : ℕ → ℕ → Type 0} {P : List F
   S = Near D G P (ScaleSame (o .port3) (o .rust3)) (RowsSame o)
 
   abbrev m : Moved
-  m = comesTo c (slotOf 256 (k .state) slot) (tablesOf (k .state) (k .scales) (k .rows))
+  m = moved c (k .state) slot
 
   -- the slot's row, by the name that each side has for it
   abbrev i : ℕ
@@ -314,7 +316,7 @@ module _ {D : Bool → Bool → Type 0} {G : ℕ → ℕ → Type 0} {P : List F
 
   -- its place, as the judge has it
   place : m .unit ≡ cond (needs c && eqb (k .state .unit) 0) (k .state .counts .scales + 1) (k .state .unit)
-  unfolding comesTo
+  unfolding moved
   place = ap (λ (b : Bool). cond b (k .state .counts .scales + 1) (k .state .unit)) (kind c .new (k .state .unit))
 
   scales-then : ScaleSame (o .port3) (o .rust3) (m .unit) (edit (scaleEdit c (k .state)) (k .scales .used)) (texcoords-by (needs c) (w .rsp .texcoords))
@@ -358,7 +360,7 @@ module _ {D : Bool → Bool → Type 0} {G : ℕ → ℕ → Type 0} {P : List F
   split false = refl
 
   modified : S (enter (changed c m (k .state) slot) edits k) (with-both w (either (getD (k .state .drawn) slot false)))
-  unfolding changed comesTo
+  unfolding changed moved
   modified = held-near N edits (slots-then (getD (k .state .drawn) slot false) refl) scales-then (rows-then (getD (k .state .drawn) slot false)) (N .held .recorded)
 
   modify-owes : Agrees S [] (enter (changed c m (k .state) slot) edits k) (execute (modify slot attribute value) w)
@@ -368,7 +370,7 @@ module _ {D : Bool → Bool → Type 0} {G : ℕ → ℕ → Type 0} {P : List F
       rw (accepts, row-is, made-so n _, made-so i _, used, split (getD (k .state .drawn) slot false)) (refl, modified)
 
 pub modify-agrees : {D : Bool → Bool → Type 0} {G : ℕ → ℕ → Type 0} {P : List Float → List (List Float) → Viewports → Type 0} {o : Offsets} {k : Book} {w : World} → Near D G P (ScaleSame (o .port3) (o .rust3)) (RowsSame o) k w → (slot attribute value : ℕ) → value < 4294967296
-    → Accepted (λ vs t e. Agrees (Near D G P (ScaleSame (o .port3) (o .rust3)) (RowsSame o)) vs (enter t e k) (execute (modify slot attribute value) w)) (plan (λ _. f3dex2) (λ _. 256) (modify slot attribute value) k)
+    → Accepted (λ vs t e. Agrees (Near D G P (ScaleSame (o .port3) (o .rust3)) (RowsSame o)) vs (enter t e k) (execute (modify slot attribute value) w)) (plan familyOf limit (modify slot attribute value) k)
 unfolding plan
 modify-agrees {D} {G} {P} {o} {k} {w} N slot attribute value small =
     on-modify _ 256 (k .state) (k .scales) (k .rows) slot attribute value (λ c a inside lo below _. modify-owes N slot attribute value small c a inside lo below)

@@ -3,9 +3,10 @@ use mathlib.Core.Path.{_≡_, sym, ap, _∙_, subst}
 use Prim.Native.Nat.{ℕ}
 use mathlib.Core.Bool.{not}
 use mathlib.Core.List.{List, [], _∷_, _++_}
-use Rattle.decide.specs.Family.{f3dex2}
+use Rattle.decide.specs.Family.{familyOf}
+use Rattle.stage.specs.Sound.{limit}
 use Rattle.fold.specs.Scales.{scaleEntry, sameScale}
-use Rattle.stage.specs.Load.{onlyIf}
+use Rattle.stage.specs.Plan.{onlyIf}
 use Rattle.sequence.specs.Sequence.{Command, pop, matrix, viewport, geometry, texture, fog, number, light, lookat, load, Areas, Book, opening}
 use Rattle.sequence.proofs.Turn.{edit, turn, course}
 use Rattle.sequence.proofs.Held.{run-book}
@@ -142,7 +143,7 @@ equals-original l o p cs h d =
     let b = open-book l (o .0) (o .1) in
     let k = on-books (prologue p ++ cs) (opening l) (b .0) d in
     let f = begins l p cs h (subst (DoneFrom (prologue p ++ cs)) (b .1) (k .0)) in
-    let m = subst (λ (k : Book). Met k (f .walked .world)) (sym (run-book (λ _. f3dex2) (λ _. 256) (prologue p ++ cs) (opening l) (b .0) .1 ∙ ap (course stage (prologue p ++ cs)) (b .1))) (f .after) in
+    let m = subst (λ (k : Book). Met k (f .walked .world)) (sym (run-book familyOf limit (prologue p ++ cs) (opening l) (b .0) .1 ∙ ap (course stage (prologue p ++ cs)) (b .1))) (f .after) in
     record {
       walked = f .walked;
       is = f .is;

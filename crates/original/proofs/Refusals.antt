@@ -16,7 +16,7 @@ use Rattle.change.specs.declared.Asked.the-variants.{Known, Unknown}
 use Rattle.change.specs.Decoded.{decoded}
 use Rattle.triangle.specs.Slot.{held}
 use Rattle.stage.specs.declared.State.{State}
-use Rattle.change.specs.Judged.{comesTo}
+use Rattle.stage.specs.Modify.{moved}
 use Rattle.stage.specs.Plan.{Table, Edit, keep, grow, Edits, Plan, refuse, does, unless, pick, lent, judge, appended, appending, untouched}
 use Rattle.stage.specs.Sound.{stateSound}
 use Rattle.stage.specs.Matrices.{combine, matrixPlan, forcePlan, popPlan, viewing, viewportPlan, geometryPlan}
@@ -26,7 +26,7 @@ use Rattle.triangle.specs.Run.{settings}
 use Rattle.triangle.specs.Slot.{culls}
 use Rattle.vertex.specs.Vertices.{verticesAt}
 use Rattle.stage.specs.Load.{settled, loadEdits, loadLent, loadPlan}
-use Rattle.stage.specs.Modify.{slotOf, tablesOf, scaleEdit, rowChange, asking, changePlan, modifyPlan, inkPlan}
+use Rattle.stage.specs.Modify.{scaleEdit, rowChange, asking, changePlan, modifyPlan, inkPlan}
 use Rattle.stage.specs.Draw.{slotsFrom, judgeCodes, cullPlan, depthPlan, judgeEver, triangle, runEdit, drawPlan}
 use Rattle.sequence.specs.Sequence.{Command, matrix, force, pop, viewport, geometry, texture, fog, number, light, lookat, microcode, load, cull, depth, modify, draw, ink, Book, loadOf, plan}
 use Rattle.original.specs.Drawing.{common, cull-display-list, branch-z, known, modify-vertex}
@@ -187,7 +187,7 @@ module _ {o : Offsets} {k : Book} {w : World} (N : Same o k w) where
       re-unless _ (ltb (getD (k .state .row) slot 0) (k .state .counts .rows)) 10 [] _ (λ _. not-one (modify slot attribute value) 10 (omega arith) [])
       (λ _.
       re-judge _ 8 (lent 3 (k .scales) keep ∷ lent 7 (k .rows) keep ∷ []) _ (not-one (modify slot attribute value) 8 (omega arith))
-      (re-judge _ 9 (lent 3 (k .scales) (scaleEdit x (k .state)) ∷ lent 7 (k .rows) (rowChange x (comesTo x (slotOf 256 (k .state) slot) (tablesOf (k .state) (k .scales) (k .rows))) (k .state) (k .rows) slot) ∷ []) _ (not-one (modify slot attribute value) 9 (omega arith)) tt)))
+      (re-judge _ 9 (lent 3 (k .scales) (scaleEdit x (k .state)) ∷ lent 7 (k .rows) (rowChange x (moved x (k .state) slot) (k .state) (k .rows) slot) ∷ []) _ (not-one (modify slot attribute value) 9 (omega arith)) tt)))
 
   modify-refused : (slot attribute value : ℕ) → Refused (Too (modify slot attribute value)) (stage (modify slot attribute value) k)
   unfolding plan modifyPlan

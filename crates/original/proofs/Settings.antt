@@ -10,7 +10,7 @@ use lib.Dec.{eqb, ltb, leb}
 use lib.IntN.{ℤ}
 use lib.Ieee.{Float}
 use borrow.Author.Tests.{leb-true, ne-eqb}
-use Rattle.decide.specs.Family.{f3dex2}
+use Rattle.decide.specs.Family.{f3dex2, familyOf}
 use Rattle.decide.specs.Lights.{slotted}
 use Rattle.decide.specs.Stack.{geometryAfter, relit}
 use Rattle.layout.specs.Layout.{colourAt, directionAt, lightAt}
@@ -20,7 +20,7 @@ use Rattle.stage.specs.declared.Lookat.{Lookat}
 use Rattle.stage.specs.declared.settings.Microcode.{Microcode}
 use Rattle.stage.specs.With.{marked, withNumber, withAmbient, withColumns, withAxes}
 use Rattle.stage.specs.Plan.{Row}
-use Rattle.stage.specs.Sound.{stateSound}
+use Rattle.stage.specs.Sound.{stateSound, limit}
 use Rattle.stage.specs.Matrices.{geometryPlan}
 use Rattle.stage.specs.Lights.{texturePlan, fogPlan, numberPlan, lightPlan, ambientPlan, slotPlan, lightIn, axisIn, lookatPlan, switched, microcodePlan}
 use Rattle.sequence.specs.Sequence.{Command, geometry, texture, fog, number, light, lookat, microcode, Book, plan}
@@ -168,7 +168,7 @@ map-replicate {A} {B} g (suc n) x = ap (λ (t : List B). g x ∷ t) (map-replica
 module _ {D : Bool → Bool → Type 0} {G : ℕ → ℕ → Type 0} {P : List Float → List (List Float) → Viewports → Type 0} {X : ℕ → List (List Float) → Texcoords → Type 0} {R : List Row → Columns → Type 0} {k : Book} {w : World} (N : Near D G P X R k w) where
   -- what is to be shown of a command
   abbrev Owes : (Bool → Bool → Type 0) → (ℕ → ℕ → Type 0) → Command → Type 0
-  Owes D′ G′ c = Accepted (λ vs t e. Agrees (Near D′ G′ P X R) vs (enter t e k) (execute c w)) (plan (λ _. f3dex2) (λ _. 256) c k)
+  Owes D′ G′ c = Accepted (λ vs t e. Agrees (Near D′ G′ P X R) vs (enter t e k) (execute c w)) (plan familyOf limit c k)
 
   pub texture-agrees : (tile level : ℕ) (on : Bool) (sc tc : ℕ) → (sc < 65536) × (tc < 65536) → Owes D G (texture tile level on sc tc)
   unfolding plan texturePlan execute

@@ -12,15 +12,16 @@ use Rattle.areas.specs.Area.{matches}
 use Rattle.areas.specs.Widths.{matrixWidth, viewportWidth}
 use Rattle.matrix.specs.Math as math
 use Rattle.matrix.specs.Math.{rows, laid, identity as identity′}
-use Rattle.decide.specs.Family.{f3dex2}
+use Rattle.decide.specs.Family.{f3dex2, familyOf}
 use Rattle.decide.specs.Stack.{geometryAfter, relit}
+use Rattle.stage.specs.Sound.{limit}
 use Rattle.fold.specs.Scales.{scaleEntry, sameScale}
 use Rattle.fold.specs.Direction.{three}
 use Rattle.layout.specs.Layout.{viewportAt}
 use Rattle.stage.specs.Plan.{keep, grow, Row, pick}
 use Rattle.stage.specs.Opening.{zeros, blank, opened}
 use Rattle.stage.specs.Matrices.{viewportEntry}
-use Rattle.stage.specs.Load.{onlyIf}
+use Rattle.stage.specs.Plan.{onlyIf}
 use Rattle.sequence.specs.Sequence.{viewport, Areas, Book, plan}
 use Rattle.sequence.proofs.Turn.{edit, enter}
 use Rattle.sequence.proofs.Accepts.{Accepted, on-viewport}
@@ -216,7 +217,7 @@ module _ (bytes : List ℕ) (at : ℕ) (I : Data bytes) (n : at + 16 ≤ length 
           two-triples (suc (suc i)) h = absurd (omega arith)
 
 pub viewport-begins : {D : Bool → Bool → Type 0} {G : ℕ → ℕ → Type 0} {X : ℕ → List (List Float) → Texcoords → Type 0} {R : List Row → Columns → Type 0} {k : Book} {w : World} → Near D G View0 X R k w → (bytes : List ℕ) (at : ℕ) → Data bytes
-    → Accepted (λ vs t e. Agrees (Near D G (ViewSame (port-before bytes at) (rust-before bytes at)) X R) vs (enter t e k) (execute (viewport bytes at) w)) (plan (λ _. f3dex2) (λ _. 256) (viewport bytes at) k)
+    → Accepted (λ vs t e. Agrees (Near D G (ViewSame (port-before bytes at) (rust-before bytes at)) X R) vs (enter t e k) (execute (viewport bytes at) w)) (plan familyOf limit (viewport bytes at) k)
 unfolding plan execute
 viewport-begins {D} {G} {X} {R} {k} {w} N bytes at I =
     on-viewport _ (k .state) (k .viewports) bytes at

@@ -10,7 +10,8 @@ use lib.Dec.{eqb, leb, ltb}
 use lib.IntN.{pos}
 use lib.Ieee.{Float, nan, le, binary64}
 use borrow.Author.Tests.{lt-leb, le-ltb, ltb-true}
-use Rattle.decide.specs.Family.{f3dex2}
+use Rattle.decide.specs.Family.{familyOf}
+use Rattle.stage.specs.Sound.{limit}
 use Rattle.matrix.specs.Math as math
 use Rattle.numbers.specs.Ratio.{ofRatio}
 use Rattle.triangle.specs.Slot.{bit, held}
@@ -46,7 +47,7 @@ bit-is false = refl
 
 module _ {D : Bool → Bool → Type 0} {G : ℕ → ℕ → Type 0} {P : List Float → List (List Float) → Viewports → Type 0} {X : ℕ → List (List Float) → Texcoords → Type 0} {R : List Row → Columns → Type 0} {k : Book} {w : World} (N : Near D G P X R k w) where
   abbrev Owes : Command → Type 0
-  Owes c = Accepted (λ vs t e. Agrees (Near D G P X R) vs (enter t e k) (execute c w)) (plan (λ _. f3dex2) (λ _. 256) c k)
+  Owes c = Accepted (λ vs t e. Agrees (Near D G P X R) vs (enter t e k) (execute c w)) (plan familyOf limit c k)
 
   -- ---- depth test
 

@@ -9,7 +9,8 @@ use lib.Seq.{getD-append-add}
 use lib.Ieee.{Float, eq}
 use Rattle.areas.specs.Area.{matches}
 use Rattle.decide.specs.Append.{final}
-use Rattle.decide.specs.Family.{f3dex2}
+use Rattle.decide.specs.Family.{familyOf}
+use Rattle.stage.specs.Sound.{limit}
 use Rattle.layout.specs.Layout.{tripleAt, viewportAt}
 use Rattle.stage.specs.Plan.{keep, grow, Row}
 use Rattle.stage.specs.Matrices.{viewportEntry}
@@ -175,7 +176,7 @@ module _ {a b : ℕ} {v : List Float} {t : List (List Float)} {x : Viewports} (S
       snoc-triples (z ∷ l) y h p q (suc i) k = snoc-triples l y (λ j m. h (suc j) (omega arith)) p q i (omega arith)
 
 pub viewport-agrees : {D : Bool → Bool → Type 0} {G : ℕ → ℕ → Type 0} {X : ℕ → List (List Float) → Texcoords → Type 0} {R : List Row → Columns → Type 0} {a b : ℕ} {k : Book} {w : World} → Near D G (ViewSame a b) X R k w → (bytes : List ℕ) (at : ℕ) → Data bytes
-    → Accepted (λ vs t e. Agrees (Near D G (ViewSame a b) X R) vs (enter t e k) (execute (viewport bytes at) w)) (plan (λ _. f3dex2) (λ _. 256) (viewport bytes at) k)
+    → Accepted (λ vs t e. Agrees (Near D G (ViewSame a b) X R) vs (enter t e k) (execute (viewport bytes at) w)) (plan familyOf limit (viewport bytes at) k)
 unfolding plan execute
 viewport-agrees {D} {G} {X} {R} {a} {b} {k} {w} N bytes at I =
     on-viewport _ (k .state) (k .viewports) bytes at

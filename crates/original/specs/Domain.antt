@@ -7,7 +7,8 @@ use lib.ListN.{length, getD}
 use lib.IntN.{ℤ}
 use Rattle.areas.specs.Area.{room}
 use Rattle.areas.specs.Widths.{matrixWidth, viewportWidth}
-use Rattle.decide.specs.Family.{f3dex2}
+use Rattle.decide.specs.Family.{familyOf}
+use Rattle.stage.specs.Sound.{limit}
 use Rattle.stage.specs.Plan.{Plan, refuse, does}
 use Rattle.sequence.specs.Sequence.{Command, matrix, force, pop, viewport, geometry, texture, fog, number, light, lookat, microcode, load, cull, depth, modify, draw, ink, Areas, Port, Book, book, plan, result, step, run, accepted, opening}
 use Rattle.original.specs.Drawing.{DiagKind, InvalidCullRange, InvalidConditionalVertex, InvalidVertexTransform, InvalidModifyVertex, Result, Ok, Err}
@@ -53,7 +54,7 @@ IsDone (does vs t e) = Unit {0}
 
 -- the stage, F3DEX2's flags and 256 slots
 abbrev pub stage : Command → Book → Plan
-stage c k = plan (λ _. f3dex2) (λ _. 256) c k
+stage c k = plan familyOf limit c k
 
 -- the stage accepts each command, one after the other
 abbrev pub AllDone : List Command → Port → Type 0

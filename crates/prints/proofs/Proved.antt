@@ -8,7 +8,7 @@ use Rattle.matrix.specs.Clip.{codeOf, depthOf}
 use Rattle.layout.specs.Layout.{entryAt, tripleAt, viewportAt, vertexAt}
 use Rattle.areas.specs.Area.{put, write, matches}
 use Rattle.decide.specs.Family.{texgenMode}
-use Rattle.decide.specs.Judge.{firstShort}
+use Rattle.decide.specs.Steps.{firstShort}
 use Rattle.numbers.specs.Choice.{pick}
 use Rattle.fold.specs.Fog.{find}
 use Rattle.fold.specs.Scales.{sameScale}
@@ -24,13 +24,14 @@ use Rattle.stage.specs.Rows.{fillSlot, fillSlots}
 use Rattle.stage.specs.Modify.{asking, changed, changePlan, modifyPlan}
 use Rattle.stage.specs.Draw.{cullPlan, depthPlan, runEdit, drawPlan}
 use Rattle.change.specs.Decoded.{decoded, floatsAfter, wordsAfter, depthAfter}
-use Rattle.change.specs.Judged.{appends, comesTo}
+use Rattle.change.specs.Decoded.{appends}
+use Rattle.stage.specs.Modify.{moved}
 use Rattle.triangle.specs.Run.{closed, sameRun}
 use Rattle.triangle.specs.Slot.{held}
 use Rattle.prints.specs.Prints.{Prints, load, modify, drawn, three, twice}
 
 pub prints : Prints
-unfolding load modify drawn three twice asking changed changePlan modifyPlan cullPlan depthPlan runEdit drawPlan decoded floatsAfter wordsAfter depthAfter appends comesTo closed sameRun held le ofRatio isRatio entryAt tripleAt viewportAt sqrt toBits rowTimes codeOf depthOf vertexAt put write matches texgenMode pick find sameScale refold floatsOf wordsOf clipOf slotAt slotOf verticesAt unless carry appended appending all stateSound blank openingPlan opening.opened viewing viewportPlan settled settledState sharedBy loadEdits loadPlan fillSlot fillSlots times rows laid add mul div neg lt ne
+unfolding load modify drawn three twice asking changed changePlan modifyPlan cullPlan depthPlan runEdit drawPlan decoded floatsAfter wordsAfter depthAfter appends moved closed sameRun held le ofRatio isRatio entryAt tripleAt viewportAt sqrt toBits rowTimes codeOf depthOf vertexAt put write matches texgenMode pick find sameScale refold floatsOf wordsOf clipOf slotAt slotOf verticesAt unless carry appended appending all stateSound blank openingPlan opening.opened viewing viewportPlan settled settledState sharedBy loadEdits loadPlan fillSlot fillSlots times rows laid add mul div neg lt ne
 prints =
     record {
       case1 = (refl, refl, refl);

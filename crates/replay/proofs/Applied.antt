@@ -8,8 +8,9 @@ use lib.IntN.{ℤ}
 use lib.Ieee.{Float}
 use borrow.Author.Tests.{ne-eqb}
 use Rattle.numbers.specs.Ratio.{signed}
-use Rattle.decide.specs.Family.{f3dex2}
+use Rattle.decide.specs.Family.{f3dex2, familyOf}
 use Rattle.decide.specs.Lights.{lightNumber}
+use Rattle.stage.specs.Sound.{limit}
 use Rattle.numbers.specs.Choice.{pick}
 use Rattle.stage.specs.declared.State.{State}
 use Rattle.stage.specs.declared.Answered.{Answered}
@@ -38,41 +39,41 @@ NoneOf n (k ∷ ks) = NoneOf n ks × (n ≡ k → ⊥)
 module _ (c : Call) (d : List ℕ) (s : State) (r : Answered) where
   pub set-geometry : c .op ≡ 0x05 → outcome r tt ≡ carry nothing (geometryPlan f3dex2 s (c .args .a) (c .args .b)) s tt → SetAre c d s r
   unfolding setBy pick
-  set-geometry e h l = joined.joined-geometry (λ _. f3dex2) (λ _. 256) (record { state = s; areas = l }) (c .args .a) (c .args .b) r h ∙ rw e
+  set-geometry e h l = joined.joined-geometry familyOf limit (record { state = s; areas = l }) (c .args .a) (c .args .b) r h ∙ rw e
 
   pub set-texture : c .op ≡ 0x07
       → outcome r tt ≡ carry nothing (texturePlan s (c .args .a % 256) (c .args .b % 256) (eqb (c .args .c % 2) 1) (c .args .d % 65536) (c .args .e % 65536)) s tt → SetAre c d s r
   unfolding setBy pick
-  set-texture e h l = joined.joined-texture (λ _. f3dex2) (λ _. 256) (record { state = s; areas = l }) _ _ _ _ _ r h ∙ rw e
+  set-texture e h l = joined.joined-texture familyOf limit (record { state = s; areas = l }) _ _ _ _ _ r h ∙ rw e
 
   pub set-fog : (m o : ℤ) → c .op ≡ 0x08 → m ≡ signed 16 (c .args .a % 65536) → o ≡ signed 16 (c .args .b % 65536)
       → outcome r tt ≡ carry nothing (fogPlan s m o) s tt → SetAre c d s r
   unfolding setBy pick
-  set-fog m o e f g h l = joined.joined-fog (λ _. f3dex2) (λ _. 256) (record { state = s; areas = l }) m o r h ∙ rw (e, f, g)
+  set-fog m o e f g h l = joined.joined-fog familyOf limit (record { state = s; areas = l }) m o r h ∙ rw (e, f, g)
 
   pub set-number : c .op ≡ 0x09 → outcome r tt ≡ carry nothing (numberPlan s (lightNumber (c .args .a))) s tt → SetAre c d s r
   unfolding setBy pick
-  set-number e h l = joined.joined-number (λ _. f3dex2) (λ _. 256) (record { state = s; areas = l }) (c .args .a) r h ∙ rw e
+  set-number e h l = joined.joined-number familyOf limit (record { state = s; areas = l }) (c .args .a) r h ∙ rw e
 
   pub set-light : c .op ≡ 0x0a → outcome r tt ≡ carry nothing (lightPlan s (c .args .a) d 0) s tt → SetAre c d s r
   unfolding setBy pick
-  set-light e h l = joined.joined-light (λ _. f3dex2) (λ _. 256) (record { state = s; areas = l }) (c .args .a) d 0 r h ∙ rw e
+  set-light e h l = joined.joined-light familyOf limit (record { state = s; areas = l }) (c .args .a) d 0 r h ∙ rw e
 
   pub set-lookat : c .op ≡ 0x0b → outcome r tt ≡ carry nothing (lookatPlan s (c .args .a) d 0) s tt → SetAre c d s r
   unfolding setBy pick
-  set-lookat e h l = joined.joined-lookat (λ _. f3dex2) (λ _. 256) (record { state = s; areas = l }) (c .args .a) d 0 r h ∙ rw e
+  set-lookat e h l = joined.joined-lookat familyOf limit (record { state = s; areas = l }) (c .args .a) d 0 r h ∙ rw e
 
   pub set-cull : c .op ≡ 0x0d → outcome r tt ≡ carry nothing (cullPlan 256 s (c .args .a) (c .args .b)) s tt → SetAre c d s r
   unfolding setBy pick
-  set-cull e h l = joined.joined-cull (λ _. f3dex2) (λ _. 256) (record { state = s; areas = l }) (c .args .a) (c .args .b) r h ∙ rw e
+  set-cull e h l = joined.joined-cull familyOf limit (record { state = s; areas = l }) (c .args .a) (c .args .b) r h ∙ rw e
 
   pub set-depth : c .op ≡ 0x0e → outcome r tt ≡ carry nothing (depthPlan 256 s (c .args .a) (c .args .b)) s tt → SetAre c d s r
   unfolding setBy pick
-  set-depth e h l = joined.joined-depth (λ _. f3dex2) (λ _. 256) (record { state = s; areas = l }) (c .args .a) (c .args .b) r h ∙ rw e
+  set-depth e h l = joined.joined-depth familyOf limit (record { state = s; areas = l }) (c .args .a) (c .args .b) r h ∙ rw e
 
   pub set-microcode : c .op ≡ 0x11 → outcome r tt ≡ carry nothing (microcodePlan s (microcodeOf (c .args .a))) s tt → SetAre c d s r
   unfolding setBy pick
-  set-microcode e h l = joined.joined-microcode (λ _. f3dex2) (λ _. 256) (record { state = s; areas = l }) (microcodeOf (c .args .a)) r h ∙ rw e
+  set-microcode e h l = joined.joined-microcode familyOf limit (record { state = s; areas = l }) (microcodeOf (c .args .a)) r h ∙ rw e
 
 -- tampered with, and nothing else
 pub set-poked : (c : Call) (d : List ℕ) (s t : State) → c .op ≡ 0x22 → t ≡ pokedState s (c .args .a) (c .args .b) (c .args .c) → SetAre c d s (record { state = t; answer = Done })
@@ -101,22 +102,22 @@ module _ (c : Call) (d : List ℕ) (s : State) (r : Answered) (m v : List Float)
   pub turn-matrix : (f : ℕ) (m′ : List Float) → c .op ≡ 0x02 → f ≡ c .args .a % 256
       → outcome r m′ ≡ carry area1 (matrixPlan f3dex2 s (table 16 (s .counts .matrices) m) f d 0) s m → TurnAre c d s (m, v) r (m′, v)
   unfolding turnBy pick
-  turn-matrix f m′ e g h l = joined.joined-matrix (λ _. f3dex2) (λ _. 256) (record { state = s; areas = with12 l (m, v) }) f d 0 r m′ h ∙ rw (e, g)
+  turn-matrix f m′ e g h l = joined.joined-matrix familyOf limit (record { state = s; areas = with12 l (m, v) }) f d 0 r m′ h ∙ rw (e, g)
 
   pub turn-force : (m′ : List Float) → c .op ≡ 0x03
       → outcome r m′ ≡ carry area1 (forcePlan s (table 16 (s .counts .matrices) m) d 0) s m → TurnAre c d s (m, v) r (m′, v)
   unfolding turnBy pick
-  turn-force m′ e h l = joined.joined-force (λ _. f3dex2) (λ _. 256) (record { state = s; areas = with12 l (m, v) }) d 0 r m′ h ∙ rw e
+  turn-force m′ e h l = joined.joined-force familyOf limit (record { state = s; areas = with12 l (m, v) }) d 0 r m′ h ∙ rw e
 
   pub turn-pop : (m′ : List Float) → c .op ≡ 0x04
       → outcome r m′ ≡ carry area1 (popPlan s (table 16 (s .counts .matrices) m) (c .args .a)) s m → TurnAre c d s (m, v) r (m′, v)
   unfolding turnBy pick
-  turn-pop m′ e h l = joined.joined-pop (λ _. f3dex2) (λ _. 256) (record { state = s; areas = with12 l (m, v) }) (c .args .a) r m′ h ∙ rw e
+  turn-pop m′ e h l = joined.joined-pop familyOf limit (record { state = s; areas = with12 l (m, v) }) (c .args .a) r m′ h ∙ rw e
 
   pub turn-viewport : (v′ : List Float) → c .op ≡ 0x06
       → outcome r v′ ≡ carry area2 (viewportPlan s (table 6 (s .counts .viewports) v) d 0) s v → TurnAre c d s (m, v) r (m, v′)
   unfolding turnBy pick
-  turn-viewport v′ e h l = joined.joined-viewport (λ _. f3dex2) (λ _. 256) (record { state = s; areas = with12 l (m, v) }) d 0 r v′ h ∙ rw e
+  turn-viewport v′ e h l = joined.joined-viewport familyOf limit (record { state = s; areas = with12 l (m, v) }) d 0 r v′ h ∙ rw e
 
   -- any other op
   pub turn-rest : NoneOf (c .op) (0x06 ∷ 0x04 ∷ 0x03 ∷ 0x02 ∷ 0x01 ∷ []) → SetAre c d s r → TurnAre c d s (m, v) r (m, v)
@@ -134,14 +135,14 @@ module _ (c : Call) (d : List ℕ) (s : State) (r : Answered) (l : Areas) where
   pub apply-load : (x : LoadAreas) → c .op ≡ 0x0c
       → outcome r x ≡ carry areasLoad (loadPlan f3dex2 256 s (loadTables (s .counts) (joined.loadPart l)) (c .args .a) (c .args .b) d 0) s (joined.loadPart l) → ApplyAre c d s l r (joined.withLoad l x)
   unfolding applyBy pick
-  apply-load x e h = joined.joined-load (λ _. f3dex2) (λ _. 256) (record { state = s; areas = l }) (c .args .a) (c .args .b) d 0 r x h ∙ rw e
+  apply-load x e h = joined.joined-load familyOf limit (record { state = s; areas = l }) (c .args .a) (c .args .b) d 0 r x h ∙ rw e
 
   pub apply-modify : (x : List Float × List Float × List ℕ) → c .op ≡ 0x0f
       → let y : List Float × List Float × List ℕ = (l .scales, l .floats, l .words) in
       outcome r x ≡ carry areas37 (modifyPlan 256 s (table 4 (s .counts .scales) (y .0)) (rowTable (s .counts .rows) (y .1) (y .2)) (c .args .a) (c .args .b) (c .args .c)) s y
       → ApplyAre c d s l r (joined.with37 l x)
   unfolding applyBy pick
-  apply-modify x e h = joined.joined-modify (λ _. f3dex2) (λ _. 256) (record { state = s; areas = l }) (c .args .a) (c .args .b) (c .args .c) r x h ∙ rw e
+  apply-modify x e h = joined.joined-modify familyOf limit (record { state = s; areas = l }) (c .args .a) (c .args .b) (c .args .c) r x h ∙ rw e
 
   pub apply-draw : (x : List ℕ × List ℕ) → c .op ≡ 0x10
       → let y : List ℕ × List ℕ = (l .indices, l .runs) in
@@ -150,12 +151,12 @@ module _ (c : Call) (d : List ℕ) (s : State) (r : Answered) (l : Areas) where
       (drawPlan f3dex2 256 s (table 1 (s .counts .indices) (y .0)) (table 8 (s .counts .runs) (y .1)) (c .args .a) (c .args .b) (c .args .c) (c .args .d ∷ c .args .e ∷ c .args .f ∷ c .args .g ∷ [])) s y
       → ApplyAre c d s l r (joined.with89 l x)
   unfolding applyBy pick
-  apply-draw x e h = joined.joined-draw (λ _. f3dex2) (λ _. 256) (record { state = s; areas = l }) _ _ _ _ _ _ _ r x h ∙ rw e
+  apply-draw x e h = joined.joined-draw familyOf limit (record { state = s; areas = l }) _ _ _ _ _ _ _ r x h ∙ rw e
 
   pub apply-ink : c .op ≡ 0x12
       → outcome r tt ≡ carry nothing (inkPlan s (rowTable (s .counts .rows) (l .floats) (l .words)) (table 1 (s .counts .indices) (l .indices)) (c .args .a)) s tt → ApplyAre c d s l r l
   unfolding applyBy pick
-  apply-ink e h = joined.joined-ink (λ _. f3dex2) (λ _. 256) (record { state = s; areas = l }) (c .args .a) r h ∙ rw e
+  apply-ink e h = joined.joined-ink familyOf limit (record { state = s; areas = l }) (c .args .a) r h ∙ rw e
 
   -- any other op
   pub apply-rest : (x : List Float × List Float) → NoneOf (c .op) (0x12 ∷ 0x10 ∷ 0x0f ∷ 0x0c ∷ []) → TurnAre c d s (l .matrices, l .viewports) r x → ApplyAre c d s l r (with12 l x)

@@ -8,7 +8,8 @@ use lib.Dec.{eqb}
 use lib.IntN.{ℤ}
 use lib.Ieee.{Float}
 use Rattle.numbers.specs.Ratio.{signed}
-use Rattle.decide.specs.Family.{f3dex2}
+use Rattle.decide.specs.Family.{familyOf}
+use Rattle.stage.specs.Sound.{limit}
 use Rattle.numbers.specs.Choice.{pick}
 use Rattle.stage.specs.declared.State.{State}
 use Rattle.stage.specs.declared.Answered.{Answered}
@@ -28,7 +29,7 @@ on c k x y = pick (eqb (c .op) k) x y
 
 -- a command of the stage
 abbrev pub by : Command → Port → Outcome Areas
-by m p = result (plan (λ _. f3dex2) (λ _. 256)) m p
+by m p = result (plan familyOf limit) m p
 
 -- an opening on the port's areas, whatever its state
 abbrev pub opens : Port → Outcome Areas

@@ -20,7 +20,7 @@ use Rattle.change.specs.declared.Change.{Change}
 use Rattle.change.specs.declared.Asked.{Asked}
 use Rattle.change.specs.declared.Asked.the-variants.{Known, Unknown}
 use Rattle.change.specs.Decoded.{decoded}
-use Rattle.change.specs.Judged.{comesTo}
+use Rattle.stage.specs.Modify.{moved}
 use Rattle.triangle.specs.Run.{settings, closed}
 use Rattle.triangle.specs.Slot.{bit, held, both, culls}
 use Rattle.vertex.specs.Vertices.{verticesAt}
@@ -31,7 +31,7 @@ use Rattle.stage.specs.With.{withCombined, withModel, withViewport, withDrawn}
 use Rattle.stage.specs.Matrices.{edits1, edits2, modelTop, combine, turned, matrixPlan, forcePlan, popPlan, viewportEntry, viewing, viewportPlan}
 use Rattle.stage.specs.Load.{LoadTables, settled, settledState, sharedBy, loadEdits, loadLent, loadPlan}
 use Rattle.stage.specs.Rows.{fillSlots}
-use Rattle.stage.specs.Modify.{edits37, slotOf, tablesOf, asking, scaleEdit, rowChange, changed, changePlan, modifyPlan, inkPlan}
+use Rattle.stage.specs.Modify.{edits37, asking, scaleEdit, rowChange, changed, changePlan, modifyPlan, inkPlan}
 use Rattle.stage.specs.Draw.{edits89, judgeCodes, slotsTo, codesOf, culled, cullPlan, near, depthPlan, judgeEver, placed, mark, triangle, runEdit, drawPlan}
 
 -- Q holds of what the plan does, if it is accepted
@@ -182,7 +182,7 @@ module _ (Q : List ℕ → State → Edits → Type 0) where
       → slot < slots
       → getD (s .loaded) slot false ≡ true
       → getD (s .row) slot 0 < s .counts .rows
-      → let m = comesTo c (slotOf slots s slot) (tablesOf s scales rows) in
+      → let m = moved c s slot in
       Fit (lent 3 scales (scaleEdit c s) ∷ lent 7 rows (rowChange c m s rows slot) ∷ [])
       → Q [] (changed c m s slot) (edits37 (scaleEdit c s) (rowChange c m s rows slot))
       )
@@ -199,7 +199,7 @@ module _ (Q : List ℕ → State → Edits → Type 0) where
       (λ b.
       on-judge 8 (lent 3 scales keep ∷ lent 7 rows keep ∷ []) _
       (λ _.
-      on-judge 9 (lent 3 scales (scaleEdit c s) ∷ lent 7 rows (rowChange c (comesTo c (slotOf slots s slot) (tablesOf s scales rows)) s rows slot) ∷ []) _
+      on-judge 9 (lent 3 scales (scaleEdit c s) ∷ lent 7 rows (rowChange c (moved c s slot) s rows slot) ∷ []) _
       (λ k. on-does _ _ _ (h c a (ltb-true _ _ (and-left (ltb slot slots) (getD (s .loaded) slot false) e)) (and-right (ltb slot slots) (getD (s .loaded) slot false) e) (ltb-true _ _ b) k)))))))
 
   pub on-cull : (slots : ℕ) (s : State) (first last : ℕ)
@@ -235,7 +235,7 @@ module _ (Q : List ℕ → State → Edits → Type 0) where
       both f (s .geometry) ≡ false
       → Held slots (s .ever) (a ∷ b ∷ c ∷ [])
       → placed s (a ∷ b ∷ c ∷ []) ≡ true
-      → closed (u .used) (length (t .used)) ≡ true
+      → closed 0 (u .used) (length (t .used)) ≡ true
       → Fit (lent 8 t e ∷ lent 9 u r ∷ [])
       → Q [] (withDrawn s (mark (s .drawn) (a ∷ b ∷ c ∷ []))) (edits89 e r)
       )
@@ -252,7 +252,7 @@ module _ (Q : List ℕ → State → Edits → Type 0) where
       (λ p.
       on-judge 8 (lent 8 t keep ∷ lent 9 u keep ∷ []) _
       (λ _.
-      on-unless (closed (u .used) (length (t .used))) 10 [] _
+      on-unless (closed 0 (u .used) (length (t .used))) 10 [] _
       (λ q.
       on-judge 9 (lent 8 t (grow (triangle f s a b c)) ∷ lent 9 u (runEdit (u .used) (length (t .used)) (settings asked (culls f (s .geometry)) (s .microcode))) ∷ []) _
       (λ k. on-does _ _ _ (some n h p q k))))))))

@@ -19,7 +19,8 @@ use Rattle.layout.proofs.Believe.{pair-sizes}
 use Rattle.layout.specs.declared.records.Vertex.{Vertex}
 use Rattle.fold.proofs.Believe.{length-lookat, length-scale, wide-lights}
 use Rattle.vertex.proofs.Believe.{floats-size, words-size}
-use Rattle.change.specs.Judged.{unitEntry, appends, comesTo}
+use Rattle.change.specs.Decoded.{unitEntry, appends}
+use Rattle.stage.specs.Modify.{moved}
 use Rattle.change.proofs.Kept.{floats-kept, words-kept}
 use Rattle.triangle.specs.Run.{settings, runOf, longer, sameRun}
 use Rattle.triangle.specs.Slot.{culls}
@@ -28,8 +29,9 @@ use Rattle.stage.specs.declared.Counts.{Counts}
 use Rattle.stage.specs.declared.load.Settled.{Settled}
 use Rattle.stage.specs.Plan.{table, rowTable, Edit, keep, grow, patch, Row, rowFloats, rowWords, only, Edits, pick, more, untouched}
 use Rattle.stage.specs.Matrices.{edits1, edits2, combine, viewportEntry}
-use Rattle.stage.specs.Load.{fogPair, settled, sharedBy, vertexRow, onlyIf, loadEdits, loadLent, loadPlan}
-use Rattle.stage.specs.Modify.{slotOf, tablesOf, rowEdit, rowChange, scaleEdit, modifyPlan}
+use Rattle.stage.specs.Load.{fogPair, settled, sharedBy, vertexRow, loadEdits, loadLent, loadPlan}
+use Rattle.stage.specs.Plan.{onlyIf}
+use Rattle.stage.specs.Modify.{rowEdit, rowChange, scaleEdit, modifyPlan}
 use Rattle.stage.specs.Draw.{triangle, runEdit, drawPlan}
 use Rattle.stage.proofs.RowEntries.{length-rows, row-at}
 use Rattle.sequence.specs.Sequence.{Command, matrix, force, pop, viewport, geometry, texture, fog, number, light, lookat, microcode, load, cull, depth, modify, draw, ink, Areas, Port, book, loadOf, plan}
@@ -280,7 +282,7 @@ module _ (p : Port) (h : Fits p) where
       let u = rowTable m (p .areas .floats) (p .areas .words) in
       on-modify (Sizes p) slots s t u slot attribute value
       (λ c _ _ _ b k.
-      let g = comesTo c (slotOf slots s slot) (tablesOf s t u) in
+      let g = moved c s slot in
       let w = row-wide i b in
       let r =
       fitted-rows m (rowChange c g s u slot) (p .areas .floats) (p .areas .words)

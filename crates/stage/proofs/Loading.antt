@@ -16,7 +16,8 @@ use Rattle.areas.proofs.Tables.{length-entries, room-fits}
 use Rattle.matrix.specs.Math.{rows}
 use Rattle.layout.specs.declared.records.Vertex.{Vertex}
 use Rattle.decide.specs.Family.{familyOf}
-use Rattle.decide.specs.Judge.{Lent, firstShort}
+use Rattle.decide.specs.Judge.{Lent}
+use Rattle.decide.specs.Steps.{firstShort}
 use Rattle.fold.specs.Lights.{lightEntries}
 use Rattle.fold.specs.Fog.{find}
 use Rattle.fold.specs.Lookat.{lookatEntry}

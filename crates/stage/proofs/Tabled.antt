@@ -5,7 +5,8 @@ use native.Mathlib.Nat.{lt-irrefl}
 use mathlib.Core.Bool.{Bool, true, false}
 use mathlib.Core.List.{List, [], _∷_}
 use borrow.Author.Tests.{leb-true}
-use Rattle.decide.specs.Judge.{Lent, fits, firstShort}
+use Rattle.decide.specs.Judge.{Lent, fits}
+use Rattle.decide.specs.Steps.{firstShort}
 use Rattle.stage.specs.declared.State.{State}
 use Rattle.stage.specs.declared.Counts.{Counts}
 use Rattle.stage.specs.declared.Answer.{Answer}

@@ -11,7 +11,8 @@ use lib.Ieee.{Float}
 use Rattle.areas.specs.Area.{room, write}
 use Rattle.areas.specs.Widths.{most, matrixWidth, scaleWidth, lightWidth, lookatWidth, fogWidth, floatWidth, wordWidth}
 use Rattle.layout.specs.declared.records.Vertex.{Vertex}
-use Rattle.decide.specs.Judge.{Lent, firstShort}
+use Rattle.decide.specs.Judge.{Lent}
+use Rattle.decide.specs.Steps.{firstShort}
 use Rattle.vertex.specs.declared.Shared.{Shared}
 use Rattle.vertex.specs.Vertices.{floatsOf, wordsOf}
 use Rattle.change.specs.declared.judge.Slot.{Slot}

@@ -6,7 +6,7 @@ ghost use lib.ListN.{length};
 ghost use Rattle.areas.specs.Area.{entries};
 ghost use Rattle.areas.specs.Widths.{matrixWidth, scaleWidth, fogWidth};
 ghost use Rattle.decide.specs.Family.{familyOf};
-ghost use Rattle.decide.specs.Judge.{firstShort};
+ghost use Rattle.decide.specs.Steps.{firstShort};
 ghost use Rattle.stage.specs.Plan.{outcome, pick};
 ghost use Rattle.stage.specs.With.{foldedLights, foldedLookat};
 ghost use Rattle.stage.specs.Load.{settled, combinedNow, sharedBy, settledState, loadEdits, loadAreas, loadMeans};

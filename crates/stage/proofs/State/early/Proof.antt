@@ -5,7 +5,7 @@ use Prim.Native.Nat.{_+_, _*_, _≤_}
 use native.Mathlib.Omega.{arith}
 use lib.Dec.{leb}
 use borrow.Author.Tests.{leb-true, eq-eqb, ne-eqb}
-use Rattle.decide.specs.Judge.{firstShort}
+use Rattle.decide.specs.Steps.{firstShort}
 use Rattle.stage.specs.declared.load.More.{More}
 use Rattle.stage.specs.Plan.{pick}
 use Rattle.stage.specs.Sound.{stateSound}
