@@ -12,17 +12,17 @@ use crate::Change;
 use areas::widths::COLOUR_WORD;
 use areas::widths::FLOAT_WIDTH;
 use areas::widths::FOG_WORD;
-use areas::widths::LIGHTS_WORD;
 use areas::widths::LIGHT_WORD;
+use areas::widths::LIGHTS_WORD;
 use areas::widths::LOOKAT_WORD;
+use areas::widths::S_FLOAT;
 use areas::widths::SCALE_WIDTH;
 use areas::widths::SCALE_WORD;
 use areas::widths::SCREEN_X;
 use areas::widths::SCREEN_Y;
 use areas::widths::SCREEN_Z;
-use areas::widths::S_FLOAT;
-use areas::widths::TEXGEN_WORD;
 use areas::widths::T_FLOAT;
+use areas::widths::TEXGEN_WORD;
 use areas::widths::WORD_WIDTH;
 
 // The change made in the f32 numbers of the row at place `at`. Asks for a row that lies in the area: its room has been

@@ -150,7 +150,13 @@ impl State {
             drawn[j] = true;
             drawn[k] = true;
             slot::put_corners(indices, n as usize, sides.swap, p.row, q.row, s.row);
-            run::put_run(runs, areas::place(RUN_WIDTH, m + more - 1), set, start, count);
+            run::put_run(
+                runs,
+                areas::place(RUN_WIDTH, m + more - 1),
+                set,
+                start,
+                count,
+            );
             let indexed = n + 3;
             let recorded = m + more;
             self.drawn = drawn;

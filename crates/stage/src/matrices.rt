@@ -244,7 +244,11 @@ impl State {
                 answer: Answer::ShortData(64),
             };
         }
-        if !decide::judge::holds(self.counts.matrices, 0, areas::room_of(MATRIX_WIDTH, matrices.len())) {
+        if !decide::judge::holds(
+            self.counts.matrices,
+            0,
+            areas::room_of(MATRIX_WIDTH, matrices.len()),
+        ) {
             return Answered {
                 state: self,
                 answer: Answer::ShortArea(1),
@@ -275,7 +279,11 @@ impl State {
                 answer: Answer::ShortData(64),
             };
         }
-        if !decide::judge::holds(self.counts.matrices, 0, areas::room_of(MATRIX_WIDTH, matrices.len())) {
+        if !decide::judge::holds(
+            self.counts.matrices,
+            0,
+            areas::room_of(MATRIX_WIDTH, matrices.len()),
+        ) {
             return Answered {
                 state: self,
                 answer: Answer::ShortArea(1),
@@ -295,7 +303,11 @@ impl State {
                 answer: Answer::BadState,
             };
         }
-        if !decide::judge::holds(self.counts.matrices, 0, areas::room_of(MATRIX_WIDTH, matrices.len())) {
+        if !decide::judge::holds(
+            self.counts.matrices,
+            0,
+            areas::room_of(MATRIX_WIDTH, matrices.len()),
+        ) {
             return Answered {
                 state: self,
                 answer: Answer::ShortArea(1),
@@ -359,7 +371,11 @@ impl State {
                 answer: Answer::ShortData(16),
             };
         }
-        if !decide::judge::holds(self.counts.viewports, 0, areas::room_of(VIEWPORT_WIDTH, viewports.len())) {
+        if !decide::judge::holds(
+            self.counts.viewports,
+            0,
+            areas::room_of(VIEWPORT_WIDTH, viewports.len()),
+        ) {
             return Answered {
                 state: self,
                 answer: Answer::ShortArea(2),

@@ -5,10 +5,10 @@ ghost use Prim.Native.Nat.{_+_};
 ghost use lib.Dec.{leb};
 ghost use Rattle.areas.specs.Area.{room};
 ghost use Rattle.triangle.specs.Steps.{drawTables, closes, drawJudged, drawSlots, drawAreas, drawLast};
-use areas::widths::INDEX_WIDTH;
-use areas::widths::RUN_WIDTH;
 use crate::run::Last;
 use crate::slot::Corner;
+use areas::widths::INDEX_WIDTH;
+use areas::widths::RUN_WIDTH;
 
 // A refusal, or nothing to draw, or a triangle to record.
 pub enum Verdict {

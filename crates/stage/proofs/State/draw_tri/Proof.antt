@@ -24,8 +24,9 @@ found : (e : tie.After-judge) →
     let s = e .before .before .before .before .before .before .before .before .before .before .before .before .before .before .before .before in
     e .judge .result ≡ judgement (familyOf (s .args .self .microcode)) 256 (s .args .self) (now (s .args .indices)) (now (s .args .runs)) (s .args .a) (s .args .b) (s .args .c) (asked s) refl
 found e =
-    verdict-is (familyOf _) 256 _ _ _ _ _ _ _ _ _ _ _ _ _ _ _ _ _ _ _
-    (e .before .before .before .before .before .sides-of .ensures ∙ ap (λ (f : Family). sidesOf f _) (e .before .before .before .before .before .before .before .before .before .before .before .before .before .before .before .family-of .ensures))
+    let s = e .before .before .before .before .before .before .before .before .before .before .before .before .before .before .before .before in
+    verdict-is (familyOf (s .args .self .microcode)) 256 _ _ _ _ _ _ _ _ _ _ _ _ _ _ _ _ _ _ _
+    (e .before .before .before .before .before .sides-of .ensures ∙ ap (λ (f : Family). sidesOf f (s .args .self .geometry)) (e .before .before .before .before .before .before .before .before .before .before .before .before .before .family-of .ensures))
     (e .before .before .before .before .before .before .before .before .before .corner-at .ensures)
     (e .before .before .before .before .before .before .before .before .corner-at2 .ensures)
     (e .before .before .before .before .before .before .before .corner-at3 .ensures)
@@ -40,8 +41,8 @@ accepted : (e : tie.After-v) →
     let a = e .before .before .before .before .before .before .before .before .before .before .before .before .before .before .before .before .before .before .args in
     Rooms (a .self .counts .indices) (a .self .counts .runs) (e .v .given .0 .0) (length (now (a .indices))) (length (now (a .runs)))
 accepted e =
-    let s = e .before .before .before .before .before .before .before .before .before .before .before .before .before .before .before .before .before .before .before in
-    has-room (familyOf _) 256 _ _ _ _ _ _ (asked s) refl _ _ _ _ (found (e .before .before)) (e .v .given .1)
+    let s = e .before .before .before .before .before .before .before .before .before .before .before .before .before .before .before .before .before .before in
+    has-room (familyOf (s .args .self .microcode)) 256 _ _ _ _ _ _ (asked s) refl _ _ _ _ (found (e .before .before)) (e .v .given .1)
 
 family-of-requires : tie.Need-family-of-requires
 family-of-requires c κs = search needs
@@ -158,7 +159,7 @@ returns : tie.Need-returns
 returns c =
     let e = c .before .before in
     let s = e .before .before .before .before .before .before .before .before .before .before .before .before .before .before .before .before in
-    let sides = e .before .before .before .before .before .sides-of .ensures ∙ ap (λ (f : Family). sidesOf f _) (e .before .before .before .before .before .before .before .before .before .before .before .before .before .before .before .family-of .ensures) in
+    let sides = e .before .before .before .before .before .sides-of .ensures ∙ ap (λ (f : Family). sidesOf f (s .args .self .geometry)) (e .before .before .before .before .before .before .before .before .before .before .before .before .before .family-of .ensures) in
     ⊎-elim
     (λ w. draws (familyOf (s .args .self .microcode)) 256 (s .args .self) (now (s .args .indices)) (now (s .args .runs)) _ _ _ (asked s) refl _ _ _ _ (found e) (w .1 .given .1) _ (w .14)
     _ (w .15 ∙ w .4 .ensures ∙ rw (sides, e .before .before .before .before .before .before .before .before .before .corner-at .ensures, e .before .before .before .before .before .before .before .before .corner-at2 .ensures, e .before .before .before .before .before .before .before .corner-at3 .ensures))

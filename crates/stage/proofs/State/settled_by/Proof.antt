@@ -53,7 +53,7 @@ folds-requires-2 c κs = search needs
 returns : tie.Need-returns
 returns c =
     let s = c .before .before .before .before .before .before .before .before .before .before .before .before .before .before .before .before .before .before .before .before .before .before .before .args .self in
-    let fam = c .before .before .before .before .before .before .before .before .before .before .before .before .before .before .before .before .before .before .before .before .before .before .family-of .ensures in
+    let fam = c .before .before .before .before .before .before .before .before .before .before .before .before .before .before .before .before .before .before .before .before .family-of .ensures in
     settled-is _ s _ _ _ (c .before .before .before .before .before .before .before .before .before .before .before .before .before .before .before .before .combined-now .result) (c .before .before .before .before .before .before .before .before .before .before .before .before .before .before .before .scales-of .result) (c .before .before .before .before .before .before .before .before .before .before .before .before .before .before .before .before .before .to-flat .result) (c .before .before .before .before .before .before .last-is .result) (c .before .before .before .before .before .scale-is .result) (c .before .before .before .folds .result) (c .before .folds2 .result) (c .before .before .before .before .before .before .before .before .before .before .before .before .before .before .is-lit .result) (c .before .before .before .before .before .before .before .before .before .before .before .before .is-foggy .result) (c .before .before .before .before .before .before .before .before .before .before .before .before .before .texgen-mode .result) (c .before .before .before .before .before .before .before .before .before .fog-place .result) (s .counts .fogs)
     (c .before .before .before .before .before .before .before .before .before .before .before .before .before .before .before .before .combined-now .ensures)
     (c .before .before .before .before .before .before .before .before .before .before .before .before .before .before .before .scales-of .ensures)
