@@ -67,7 +67,7 @@ module _ (F : ℕ → Family) (limit : State → ℕ) (seats : ℕ) (few : seats
 
   -- the invariant, over the parts of a state
   abbrev TiesOf : Parts → Type 0
-  TiesOf x = Ties seats (entriesOf k) (k .rows .used) (k .indices .used) (k .runs .used) x h
+  TiesOf x = Ties seats (entriesOf k) (k .rows .used) (k .drawing .indices .used) (k .drawing .runs .used) x h
 
   -- no table changes, and nothing of the state that is tied
   rests : (t : State) → partsOf t ≡ partsOf (k .state) → Inv seats (enter t untouched k) h
@@ -221,17 +221,17 @@ module _ (F : ℕ → Family) (limit : State → ℕ) (seats : ℕ) (few : seats
     -- what stands after a triangle of the slots x, y, z
     abbrev Drew : List (List ℕ) → List (List ℕ) → Triangle → Type 0
     Drew is rs t =
-        Standing seats (entriesOf k) (k .rows .used) (k .indices .used ++ is) rs (withMarks (partsOf (k .state) .columns) marks) (h .slots) (h .triangles ++ t ∷ [])
+        Standing seats (entriesOf k) (k .rows .used) (k .drawing .indices .used ++ is) rs (withMarks (partsOf (k .state) .columns) marks) (h .slots) (h .triangles ++ t ∷ [])
 
-    drawn-keeps : Held slots (k .state .ever) (a ∷ b ∷ c ∷ []) → Extended (k .runs .used) (edit (runEdit (k .runs .used) (length (k .indices .used)) six) (k .runs .used)) (length (k .indices .used)) six
+    drawn-keeps : Held slots (k .state .ever) (a ∷ b ∷ c ∷ []) → Extended (k .drawing .runs .used) (edit (runEdit (k .drawing .runs .used) (length (k .drawing .indices .used)) six) (k .drawing .runs .used)) (length (k .drawing .indices .used)) six
         → (s : Bool) → swaps f (k .state .geometry) ≡ s
         → Drew (map (λ (r : ℕ). r ∷ []) (corners s (rowOf (k .state) a) (rowOf (k .state) b) (rowOf (k .state) c)))
-        (edit (runEdit (k .runs .used) (length (k .indices .used)) six) (k .runs .used))
+        (edit (runEdit (k .drawing .runs .used) (length (k .drawing .indices .used)) six) (k .drawing .runs .used))
         (record { corners = turnedAs s (getD (h .slots) a noCorner) (getD (h .slots) b noCorner) (getD (h .slots) c noCorner); settings = six })
     unfolding pick
     drawn-keeps known X s e = go s
       where
-        S : Standing seats (entriesOf k) (k .rows .used) (k .indices .used) (k .runs .used) (partsOf (k .state) .columns) (h .slots) (h .triangles)
+        S : Standing seats (entriesOf k) (k .rows .used) (k .drawing .indices .used) (k .drawing .runs .used) (partsOf (k .state) .columns) (h .slots) (h .triangles)
         S = I .ties .standing
 
         ea : getD (k .state .ever) a false ≡ true
@@ -251,7 +251,7 @@ module _ (F : ℕ → Family) (limit : State → ℕ) (seats : ℕ) (few : seats
 
         go : (s : Bool)
             → Drew (map (λ (r : ℕ). r ∷ []) (corners s (rowOf (k .state) a) (rowOf (k .state) b) (rowOf (k .state) c)))
-            (edit (runEdit (k .runs .used) (length (k .indices .used)) six) (k .runs .used))
+            (edit (runEdit (k .drawing .runs .used) (length (k .drawing .indices .used)) six) (k .drawing .runs .used))
             (record { corners = turnedAs s (getD (h .slots) a noCorner) (getD (h .slots) b noCorner) (getD (h .slots) c noCorner); settings = six })
         go true = triangle-drawn S c b a ec eb ea six _ X marks long (λ l z. let u = apart l z in (u .2, u .1, u .0, u .3))
         go false = triangle-drawn S a b c ea eb ec six _ X marks long apart
@@ -259,15 +259,15 @@ module _ (F : ℕ → Family) (limit : State → ℕ) (seats : ℕ) (few : seats
     keeps-draw : Accepted (Keeps (draw a b c material mode colour prim)) (plan F limit (draw a b c material mode colour prim) k)
     unfolding plan act
     keeps-draw =
-        on-draw (Keeps (draw a b c material mode colour prim)) f slots (k .state) (k .indices) (k .runs) a b c asked
+        on-draw (Keeps (draw a b c material mode colour prim)) f slots (k .state) (k .drawing .indices) (k .drawing .runs) a b c asked
         (λ q. rw (pick-true (both f (k .state .geometry)) h _ q) (rests (k .state) refl))
         (λ q held _ z _.
         rw (pick-false (both f (k .state .geometry)) h (withTriangle h (given f (k .state) h a b c asked)) q)
         (record {
-          count = counted-then k (k .state) (edits89 (grow (triangle f (k .state) a b c)) (runEdit (k .runs .used) (length (k .indices .used)) six)) (I .count);
+          count = counted-then k (k .state) (edits89 (grow (triangle f (k .state) a b c)) (runEdit (k .drawing .runs .used) (length (k .drawing .indices .used)) six)) (I .count);
           ties = record {
             current = I .ties .current;
-            standing = drawn-keeps held (extended (k .runs .used) (length (k .indices .used)) six refl (I .ties .standing .reached) (I .ties .standing .whole) z) (swaps f (k .state .geometry)) refl;
+            standing = drawn-keeps held (extended (k .drawing .runs .used) (length (k .drawing .indices .used)) six refl (I .ties .standing .reached) (I .ties .standing .whole) z) (swaps f (k .state .geometry)) refl;
           };
         }))
 
@@ -293,4 +293,4 @@ module _ (F : ℕ → Family) (limit : State → ℕ) (seats : ℕ) (few : seats
   keeps (depth slot threshold) = on-depth (Keeps (depth slot threshold)) slots (k .state) slot threshold (λ _ _. rests (k .state) refl)
   keeps (modify slot attribute value) = keeps-modify slot attribute value
   keeps (draw a b c material mode colour prim) = keeps-draw a b c material mode colour prim
-  keeps (ink colour) = on-ink (Keeps (ink colour)) (k .state) (k .rows) (k .indices) colour (λ _. rests (k .state) refl)
+  keeps (ink colour) = on-ink (Keeps (ink colour)) (k .state) (k .rows) (k .drawing .indices) colour (λ _. rests (k .state) refl)

@@ -119,14 +119,14 @@ module _ (f : Family) (seats : ℕ) (k : Book) (h : Bench) (I : Inv seats k h) (
 
   -- slots, rows and triangles then
   standing-then : (first : ℕ) → first + length vs ≤ seats
-      → Standing seats t (edit (e .rows) (k .rows .used)) (k .indices .used) (k .runs .used)
+      → Standing seats t (edit (e .rows) (k .rows .used)) (k .drawing .indices .used) (k .drawing .runs .used)
       (partsOf (fillSlots (settledState d (k .state)) (rows (d .combined) 0) (sharedBy d (k .state)) first (k .state .counts .rows) vs) .columns)
       (seated (h .slots) first (map (corner f (k .state) g) vs)) (h .triangles)
   unfolding loadEdits settledState
   standing-then first fits =
       let u : State = settledState d (k .state) in
       let J = tables-grow (I .ties .standing) tables in
-      let K = rows-loaded f (k .state) t (sharedBy d (k .state)) g shares (rows (d .combined) 0) seats vs u (k .rows .used) (k .indices .used) (k .runs .used) (h .slots) (h .triangles) first J fits in
+      let K = rows-loaded f (k .state) t (sharedBy d (k .state)) g shares (rows (d .combined) 0) seats vs u (k .rows .used) (k .drawing .indices .used) (k .drawing .runs .used) (h .slots) (h .triangles) first J fits in
       rw (I .count .rows) at K
 
   -- THE INVARIANT AFTER A LOAD

@@ -3,7 +3,7 @@ use mathlib.Core.Path.{_≡_, refl, sym, ap, _∙_, subst}
 use mathlib.Core.Logic.{_≢_}
 use Prim.Native.Nat.{ℕ, _+_, _-_, _<_}
 use native.Mathlib.Omega.{arith}
-use mathlib.Core.Bool.{Bool, true, false, not, _&&_, _||_, cond, false≢true}
+use mathlib.Core.Bool.{Bool, true, false, not, _&&_, _||_, false≢true}
 use mathlib.Core.List.{List, [], _∷_}
 use lib.ListN.{length, getD, set, length-append}
 use lib.Seq.{getD-append-seam, set-getD}
@@ -16,11 +16,9 @@ use Rattle.change.specs.declared.Change.{Change}
 use Rattle.change.specs.declared.Change.the-variants.{Colour, Texture, Screen, Depth}
 use Rattle.change.specs.declared.Asked.the-variants.{Known}
 use Rattle.change.specs.declared.judge.Moved.{Moved}
-use Rattle.change.specs.Decoded.{floatsAfter}
-use Rattle.change.specs.Decoded.{unitEntry, appends}
-use Rattle.stage.specs.Modify.{moved}
+use Rattle.change.specs.Decoded.{floatsAfter, unitEntry, appends}
+use Rattle.stage.specs.Modify.{moved, edits37, scaleEdit, rowAfter, rowEdit, rowChange, changed}
 use Rattle.stage.specs.Plan.{Row, Edit, keep, grow, pick}
-use Rattle.stage.specs.Modify.{edits37, scaleEdit, rowAfter, rowEdit, rowChange, changed}
 use Rattle.sequence.specs.Sequence.{Book}
 use Rattle.sequence.proofs.Turn.{edit, enter}
 use Rattle.finished.specs.Shown.{Entries, entriesOf, shown, shownBy, rowWord, noRow}
@@ -97,12 +95,12 @@ or-no true = refl
 or-no false = refl
 
 -- it is marked as appended then, where it was or where the change needs it
-marked-then : (c : Change) (u n : ℕ) → not (eqb u 0) || scaled c ≡ not (eqb (cond (appends c u) (n + 1) u) 0)
-unfolding appends
+marked-then : (c : Change) (u n : ℕ) → not (eqb u 0) || scaled c ≡ not (eqb (pick (appends c u) (n + 1) u) 0)
+unfolding appends pick
 marked-then (Colour w) u n = or-no (not (eqb u 0))
 marked-then (Texture x y) u n = go (eqb u 0) refl
   where
-    go : (b : Bool) → eqb u 0 ≡ b → not b || true ≡ not (eqb (cond b (n + 1) u) 0)
+    go : (b : Bool) → eqb u 0 ≡ b → not b || true ≡ not (eqb (pick b (n + 1) u) 0)
     go true e = rw (ne-eqb (n + 1) 0 (λ z. omega (arith, z)))
     go false e = rw e
 marked-then (Screen x y) u n = or-no (not (eqb u 0))
@@ -111,7 +109,7 @@ marked-then (Depth z own) u n = or-no (not (eqb u 0))
 -- the place of the entry after a change: u before, n scales before
 module _ (c : Change) (u n : ℕ) (ss : List (List Float)) (ne : length ss ≡ n) (old : u ≢ 0 → (u - 1 < length ss) × (getD ss (u - 1) [] ≡ unitEntry)) where
   abbrev then : ℕ
-  then = cond (appends c u) (n + 1) u
+  then = pick (appends c u) (n + 1) u
 
   abbrev scales-then : List (List Float)
   scales-then = edit (pick (appends c u) (grow (unitEntry ∷ [])) keep) ss
@@ -120,7 +118,7 @@ module _ (c : Change) (u n : ℕ) (ss : List (List Float)) (ne : length ss ≡ n
   unfolding pick
   unit-then = go (appends c u)
     where
-      go : (b : Bool) → let v = cond b (n + 1) u in let l = edit (pick b (grow (unitEntry ∷ [])) keep) ss in v ≢ 0 → (v - 1 < length l) × (getD l (v - 1) [] ≡ unitEntry)
+      go : (b : Bool) → let v = pick b (n + 1) u in let l = edit (pick b (grow (unitEntry ∷ [])) keep) ss in v ≢ 0 → (v - 1 < length l) × (getD l (v - 1) [] ≡ unitEntry)
       go true z =
           let q : n + 1 - 1 ≡ length ss = omega (arith, ne) in
           (omega (arith, length-append ss (unitEntry ∷ [])), rw q (getD-append-seam ss unitEntry [] []))
@@ -128,9 +126,10 @@ module _ (c : Change) (u n : ℕ) (ss : List (List Float)) (ne : length ss ≡ n
 
   -- a change that needs it has it
   needs-unit : scaled c ≡ true → then ≢ 0
+  unfolding pick
   needs-unit e = go (appends c u) refl
     where
-      go : (b : Bool) → appends c u ≡ b → cond b (n + 1) u ≢ 0
+      go : (b : Bool) → appends c u ≡ b → pick b (n + 1) u ≢ 0
       go true q z = omega (arith, z)
       go false q z = there-already c u e q z
 
@@ -175,12 +174,12 @@ module _ (limit seats : ℕ) (k : Book) (h : Bench) (I : Inv seats k h) (slot : 
       let g = grown-same (entriesOf k) in
       record { matrices = g .matrices; viewports = g .viewports; scales = longer-if _ _ (k .scales .used); lights = g .lights; lookats = g .lookats; fogs = g .fogs }
 
-  stands : Standing seats t (k .rows .used) (k .indices .used) (k .runs .used) (partsOf (k .state) .columns) (h .slots) (h .triangles)
+  stands : Standing seats t (k .rows .used) (k .drawing .indices .used) (k .drawing .runs .used) (partsOf (k .state) .columns) (h .slots) (h .triangles)
   stands = tables-grow (I .ties .standing) tables
 
   -- the unit entry then
   unit-at : UnitAt t (m .unit) c
-  unfolding moved
+  unfolding moved pick
   unit-at e =
       let u = I .ties .current .unit in
       unit-then c (k .state .unit) (k .state .counts .scales) (k .scales .used) (I .count .scales) u (needs-unit c (k .state .unit) (k .state .counts .scales) (k .scales .used) (I .count .scales) u e)
@@ -199,7 +198,7 @@ module _ (limit seats : ℕ) (k : Book) (h : Bench) (I : Inv seats k h) (slot : 
   -- what holds then of slots, rows and triangles
   abbrev Then : Edit Row → ℕ → Type 0
   Then e n =
-      Standing seats t (edit e (k .rows .used)) (k .indices .used) (k .runs .used)
+      Standing seats t (edit e (k .rows .used)) (k .drawing .indices .used) (k .drawing .runs .used)
       (record { row = set (k .state .row) slot n; ever = k .state .ever; loaded = k .state .loaded; drawn = set (k .state .drawn) slot false })
       (set (h .slots) slot (changedBy c (getD (h .slots) slot noCorner))) (h .triangles)
 
@@ -207,7 +206,7 @@ module _ (limit seats : ℕ) (k : Book) (h : Bench) (I : Inv seats k h) (slot : 
   unfolding moved pick
   standing-then = go (getD (k .state .drawn) slot false) refl
     where
-      go : (b : Bool) → getD (k .state .drawn) slot false ≡ b → Then (rowEdit b i r′) (cond b (k .state .counts .rows) i)
+      go : (b : Bool) → getD (k .state .drawn) slot false ≡ b → Then (rowEdit b i r′) (pick b (k .state .counts .rows) i)
       go true q =
           rw (shown-then, set-true (k .state .ever) slot ev, set-true (k .state .loaded) slot lo, I .count .rows) at (row-filled stands slot r′ inside sound-then)
       go false q =
@@ -216,7 +215,7 @@ module _ (limit seats : ℕ) (k : Book) (h : Bench) (I : Inv seats k h) (slot : 
 
   -- the values that the bench holds then
   current-then : CurrentIn t (partsOf (changed c m (k .state) slot)) (modifies (Known c) slot h .values)
-  unfolding moved changed modifies
+  unfolding moved changed modifies pick
   current-then =
       let o = I .ties .current in
       let a : scaled c && not (h .values .unit) ≡ appends c (k .state .unit) = ap (λ (b : Bool). scaled c && not b) (o .mark) ∙ appends-same c (k .state .unit) in

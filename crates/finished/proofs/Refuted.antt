@@ -16,9 +16,8 @@ use Rattle.fold.specs.Fog.{find}
 use Rattle.fold.specs.Scales.{sameScale}
 use Rattle.fold.specs.Decision.{refold}
 use Rattle.vertex.specs.Vertices.{floatsOf, wordsOf, clipOf, slotAt, slotOf, verticesAt}
-use Rattle.change.specs.Decoded.{decoded, floatsAfter, wordsAfter, depthAfter}
-use Rattle.change.specs.Decoded.{appends}
-use Rattle.stage.specs.Modify.{moved}
+use Rattle.change.specs.Decoded.{decoded, floatsAfter, wordsAfter, depthAfter, appends}
+use Rattle.stage.specs.Modify.{moved, asking, changed, changePlan, modifyPlan}
 use Rattle.triangle.specs.Run.{closed, sameRun}
 use Rattle.triangle.specs.Slot.{held}
 use Rattle.stage.specs.declared.settings.Microcode.the-variants.{F3dex2}
@@ -29,7 +28,6 @@ use Rattle.stage.specs.Opening as start
 use Rattle.stage.specs.Load.{settled, settledState, sharedBy, loadEdits, loadPlan}
 use Rattle.stage.specs.Lights.{switched, microcodePlan}
 use Rattle.stage.specs.Rows.{fillSlot, fillSlots}
-use Rattle.stage.specs.Modify.{asking, changed, changePlan, modifyPlan}
 use Rattle.stage.specs.Draw.{runEdit, drawPlan}
 use Rattle.sequence.specs.Sequence.{Command, load, modify, draw, microcode, Areas, Book, Alike, book, plan, result, step, run, opening}
 use Rattle.finished.specs.Shown.{Triangle, shown, shownBy, settingsAt, cornerOf, triangleOf}
@@ -49,8 +47,7 @@ areas =
       fogs = [];
       floats = zeros (5 * floatWidth);
       words = replicate (5 * wordWidth) 0;
-      indices = replicate (6 * indexWidth) 0;
-      runs = replicate (2 * runWidth) 0;
+      drawing = record { indices = replicate (6 * indexWidth) 0; runs = replicate (2 * runWidth) 0 };
     }
 
 -- three vertices loaded, and a triangle of them with a material

@@ -96,7 +96,7 @@ module _ (rs : List (List ℕ)) (n : ℕ) (q : List ℕ) (h : Reached 0 rs n) (s
       rw (getD-take (length rs - 1) rs j [] k) (whole j (omega arith))
 
   r : List ℕ
-  r = longer (final rs)
+  r = longer 0 (final rs)
 
   front : List (List ℕ)
   front = take (length rs - 1) rs
@@ -110,7 +110,7 @@ module _ (rs : List (List ℕ)) (n : ℕ) (q : List ℕ) (h : Reached 0 rs n) (s
 
   after : set rs (length rs - 1) r ≡ front ++ r ∷ []
   unfolding front r
-  after = set-split rs (length rs - 1) (longer (final rs)) (omega arith) ∙ rw rest
+  after = set-split rs (length rs - 1) (longer 0 (final rs)) (omega arith) ∙ rw rest
 
   front-reached : Reached 0 front n
   unfolding front
@@ -145,7 +145,7 @@ module _ (rs : List (List ℕ)) (n : ℕ) (q : List ℕ) (h : Reached 0 rs n) (s
       })
 
 -- what a draw does to the runs, where they are closed
-pub extended : (rs : List (List ℕ)) (n : ℕ) (q : List ℕ) → length q ≡ settingsWide → Reached 0 rs n → Whole rs → closed rs n ≡ true
+pub extended : (rs : List (List ℕ)) (n : ℕ) (q : List ℕ) → length q ≡ settingsWide → Reached 0 rs n → Whole rs → closed 0 rs n ≡ true
     → Extended rs (edit (runEdit rs n q) rs) n q
 unfolding runEdit sameRun closed r
 extended rs n q l h w c = pick-case (λ e. Extended rs (edit e rs) n q) (matches eqb (take settingsWide (final rs)) q) (λ e. grows (matches-eqb (take settingsWide (final rs)) q .0 e)) (λ _. extended-grow rs n q l h w)
@@ -163,5 +163,5 @@ extended rs n q l h w c = pick-case (λ e. Extended rs (edit e rs) n q) (matches
         or-right : (s t : Bool) → s ≡ false → s || t ≡ true → t ≡ true
         or-right s t e f = rw e at f
 
-    grows : take settingsWide (final rs) ≡ q → Extended rs (set rs (length rs - 1) (longer (final rs))) n q
+    grows : take settingsWide (final rs) ≡ q → Extended rs (set rs (length rs - 1) (longer 0 (final rs))) n q
     grows e = let k = some-run e (length rs) refl in extended-last rs n q h k e (ends k) w

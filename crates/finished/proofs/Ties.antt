@@ -60,7 +60,7 @@ pub record Ties (seats : ℕ) (t : Entries) (rows : List Row) (indices runs : Li
 
 pub record Inv (seats : ℕ) (k : Book) (h : Bench) : Type 0 where
   pub count : Counted k
-  pub ties : Ties seats (entriesOf k) (k .rows .used) (k .indices .used) (k .runs .used) (partsOf (k .state)) h
+  pub ties : Ties seats (entriesOf k) (k .rows .used) (k .drawing .indices .used) (k .drawing .runs .used) (partsOf (k .state)) h
 
 -- ---- matrix and viewport
 

@@ -24,8 +24,7 @@ use Rattle.change.specs.declared.Change.{Change}
 use Rattle.change.specs.declared.Change.the-variants.{Colour, Texture, Screen, Depth}
 use Rattle.change.specs.declared.Asked.{Asked}
 use Rattle.change.specs.declared.Asked.the-variants.{Known, Unknown}
-use Rattle.change.specs.Decoded.{decoded}
-use Rattle.change.specs.Decoded.{unitEntry}
+use Rattle.change.specs.Decoded.{decoded, unitEntry}
 use Rattle.triangle.specs.Run.{settings}
 use Rattle.triangle.specs.Slot.{both, culls, swaps}
 use Rattle.stage.specs.declared.State.{State}

@@ -50,11 +50,11 @@ under r m (ink colour) k = m (ink colour) k
 -- edits with another one of the rows, or of the runs
 abbrev pub withRowEdit : Edits → Edit Row → Edits
 withRowEdit e r =
-    record { matrices = e .matrices; viewports = e .viewports; scales = e .scales; lights = e .lights; lookats = e .lookats; fogs = e .fogs; rows = r; indices = e .indices; runs = e .runs }
+    record { matrices = e .matrices; viewports = e .viewports; scales = e .scales; lights = e .lights; lookats = e .lookats; fogs = e .fogs; rows = r; drawing = e .drawing }
 
 abbrev pub withRunEdit : Edits → Edit (List ℕ) → Edits
 withRunEdit e r =
-    record { matrices = e .matrices; viewports = e .viewports; scales = e .scales; lights = e .lights; lookats = e .lookats; fogs = e .fogs; rows = e .rows; indices = e .indices; runs = r }
+    record { matrices = e .matrices; viewports = e .viewports; scales = e .scales; lights = e .lights; lookats = e .lookats; fogs = e .fogs; rows = e .rows; drawing = record { indices = e .drawing .indices; runs = r } }
 
 -- a row appended is written over row i instead
 abbrev pub over : ℕ → Edit Row → Edit Row
@@ -106,10 +106,10 @@ sharesRow k =
 -- 5. runs are merged though their settings differ
 unfoldable pub mergesRuns : Book → Rules
 mergesRuns k =
-    let us = k .runs .used in
+    let us = k .drawing .runs .used in
     record {
       load = λ first. asWas;
       modify = λ slot. asWas;
-      draw = λ a b c t e. does [] t (withRunEdit e (pick (eqb (length us) 0) (e .runs) (patch (length us - 1) (longer (final us)))));
+      draw = λ a b c t e. does [] t (withRunEdit e (pick (eqb (length us) 0) (e .drawing .runs) (patch (length us - 1) (longer 0 (final us)))));
       microcode = asWas;
     }

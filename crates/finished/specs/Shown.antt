@@ -114,4 +114,4 @@ triangleOf t rows indices runs n =
 
 -- what triangle n of a book shows
 abbrev pub triangleAt : Book → ℕ → Triangle
-triangleAt k n = triangleOf (entriesOf k) (k .rows .used) (k .indices .used) (k .runs .used) n
+triangleAt k n = triangleOf (entriesOf k) (k .rows .used) (k .drawing .indices .used) (k .drawing .runs .used) n

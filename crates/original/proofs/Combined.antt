@@ -65,8 +65,7 @@ withState k s =
       lookats = k .lookats;
       fogs = k .fogs;
       rows = k .rows;
-      indices = k .indices;
-      runs = k .runs;
+      drawing = k .drawing;
     }
 
 -- a world with other matrices
@@ -108,8 +107,7 @@ module _ {D : Bool → Bool → Type 0} {G : ℕ → ℕ → Type 0} {P : List F
         lookats = edited (e .lookats) (k .lookats);
         fogs = edited (e .fogs) (k .fogs);
         rows = edited (e .rows) (k .rows);
-        indices = edited (e .indices) (k .indices);
-        runs = edited (e .runs) (k .runs);
+        drawing = record { indices = edited (e .drawing .indices) (k .drawing .indices); runs = edited (e .drawing .runs) (k .drawing .runs) };
       }
 
   -- a state s of the same counts, and matrices m before they are recomputed

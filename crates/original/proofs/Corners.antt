@@ -13,9 +13,9 @@ use Rattle.areas.specs.Widths.{floatWidth, flagsWord, matrixWord, viewportWord,
 use Rattle.stage.specs.Plan.{Row, pick}
 use Rattle.sequence.specs.Sequence.{Book}
 use Rattle.sequence.proofs.Spelled.{spells}
-use Rattle.finished.specs.Shown.{entriesOf, fogShown, noRow, shownBy, shown}
+use Rattle.finished.specs.Shown.{entriesOf, fogShown, noRow, shownBy, shown, rowWord}
 use Rattle.original.specs.Walk.{World}
-use Rattle.original.specs.Relation.{over, Offsets, Meets, joined, word, made-of, Since, Same, compared, seen, CornersSame}
+use Rattle.original.specs.Relation.{over, Offsets, Meets, joined, made-of, Since, Same, compared, seen, CornersSame}
 use Rattle.original.specs.Domain.{Met}
 use Rattle.original.proofs.RowsOf.{row-read}
 use Rattle.original.proofs.Views.{fours-at}
@@ -42,15 +42,15 @@ module _ {o : Offsets} {k : Book} {w : World} (S : Same o k w) where
   corner-same r h = λ i.
       record {
         floats = spells nan (r .floats) floatWidth (h .floats) i;
-        flags = word flagsWord r;
-        matrix = getD (S .space .matrices .table i) (word matrixWord r) [];
-        viewport = (meets-at (S .space .view .table) (word viewportWord r) (h .viewport) ∙ List·getD-map joined (w .rsp .viewports .viewport-table) _ ([], [])) i;
-        scale = (meets-at (S .held .scales .table) (word scaleWord r) (h .scale) ∙ fours-at (w .rsp .texcoords .texcoord-table) (w .rsp .texcoords .texgen-scale-table) (S .held .scales .beside) (over (o .port3) (o .rust3) (word scaleWord r))) i;
-        colour = word colourWord r;
-        lights = (ap (λ t. part t (word lightWord r) (word lightsWord r)) (S .held .recorded .light-table) ∙ map-part joined (w .scene .lights-table) (word lightWord r) (word lightsWord r)) i;
-        texgen = word texgenWord r;
-        fog = fogShown (S .held .recorded .fog-table i) (word fogWord r);
-        lookat = pick (eqb (word texgenWord r) 0) none (some ((ap (λ t. getD t (word lookatWord r) []) (S .held .recorded .lookat-table) ∙ List·getD-map joined (w .scene .lookat-table) (word lookatWord r) ([], [])) i));
+        flags = rowWord r flagsWord;
+        matrix = getD (S .space .matrices .table i) (rowWord r matrixWord) [];
+        viewport = (meets-at (S .space .view .table) (rowWord r viewportWord) (h .viewport) ∙ List·getD-map joined (w .rsp .viewports .viewport-table) _ ([], [])) i;
+        scale = (meets-at (S .held .scales .table) (rowWord r scaleWord) (h .scale) ∙ fours-at (w .rsp .texcoords .texcoord-table) (w .rsp .texcoords .texgen-scale-table) (S .held .scales .beside) (over (o .port3) (o .rust3) (rowWord r scaleWord))) i;
+        colour = rowWord r colourWord;
+        lights = (ap (λ t. part t (rowWord r lightWord) (rowWord r lightsWord)) (S .held .recorded .light-table) ∙ map-part joined (w .scene .lights-table) (rowWord r lightWord) (rowWord r lightsWord)) i;
+        texgen = rowWord r texgenWord;
+        fog = fogShown (S .held .recorded .fog-table i) (rowWord r fogWord);
+        lookat = pick (eqb (rowWord r texgenWord) 0) none (some ((ap (λ t. getD t (rowWord r lookatWord) []) (S .held .recorded .lookat-table) ∙ List·getD-map joined (w .scene .lookat-table) (rowWord r lookatWord) ([], [])) i));
       }
 
   pub corners-same : CornersSame k w

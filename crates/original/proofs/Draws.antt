@@ -116,7 +116,7 @@ runs-same same new (r ∷ rs) q n h e f = go (same z) refl
     ends = ap (λ (m : ℕ). getD (map runNumbers (r ∷ rs)) m []) long ∙ getD-map runNumbers (r ∷ rs) (length (r ∷ rs) - 1) noRun [] (omega arith)
 
     go : (b : Bool) → same z ≡ b
-        → edit (pick (matches eqb (take settingsWide (final (map runNumbers (r ∷ rs)))) q) (patch (length (map runNumbers (r ∷ rs)) - 1) (longer (final (map runNumbers (r ∷ rs))))) (grow (runOf q n 3 ∷ []))) (map runNumbers (r ∷ rs))
+        → edit (pick (matches eqb (take settingsWide (final (map runNumbers (r ∷ rs)))) q) (patch (length (map runNumbers (r ∷ rs)) - 1) (longer 0 (final (map runNumbers (r ∷ rs))))) (grow (runOf q n 3 ∷ []))) (map runNumbers (r ∷ rs))
         ≡ map runNumbers (runs-then same new (r ∷ rs))
     go true b = rw (ends, e z, b, long, runs-last same new (r ∷ rs) (omega arith), b) (sym (map-set runNumbers (r ∷ rs) (length (r ∷ rs) - 1) (grown z)))
     go false b = rw (ends, e z, b, runs-last same new (r ∷ rs) (omega arith), b, ← f) (sym (map-snoc runNumbers (r ∷ rs) new))
@@ -130,6 +130,7 @@ three-more (i ∷ is) x y z = ap (λ (t : List (List ℕ)). (i ∷ []) ∷ t) (t
 -- the two sides exchange alike
 turned-same : (row : List ℕ) (s : Bool) (a b c : ℕ)
     → map (λ (r : ℕ). r ∷ []) (corners s (getD row a 0) (getD row b 0) (getD row c 0)) ≡ (getD row (cond s c a) 0 ∷ []) ∷ (getD row b 0 ∷ []) ∷ (getD row (cond s a c) 0 ∷ []) ∷ []
+unfolding pick
 turned-same row true a b c = refl
 turned-same row false a b c = refl
 
@@ -137,13 +138,13 @@ pub draw-agrees : {D : Bool → Bool → Type 0} {P : List Float → List (List 
     → Accepted (λ vs t e. Agrees (Near D _≡_ P X R) vs (enter t e k) (execute (draw a b c material mode colour prim) w)) (plan familyOf limit (draw a b c material mode colour prim) k)
 unfolding plan execute draw-tri
 draw-agrees {D} {P} {X} {R} {k} {w} N a b c material mode colour prim =
-    on-draw _ f3dex2 256 (k .state) (k .indices) (k .runs) a b c (material ∷ mode ∷ colour ∷ prim ∷ [])
+    on-draw _ f3dex2 256 (k .state) (k .drawing .indices) (k .drawing .runs) a b c (material ∷ mode ∷ colour ∷ prim ∷ [])
     (λ e. rw (sides ∙ e) (refl, N))
     (λ e _ _ _ _.
     rw (sides ∙ e) (
       refl,
       held-near N
-          (edits89 (grow (triangle f3dex2 (k .state) a b c)) (runEdit (k .runs .used) (length (k .indices .used)) (settings (material ∷ mode ∷ colour ∷ prim ∷ []) (culls f3dex2 (k .state .geometry)) (k .state .microcode))))
+          (edits89 (grow (triangle f3dex2 (k .state) a b c)) (runEdit (k .drawing .runs .used) (length (k .drawing .indices .used)) (settings (material ∷ mode ∷ colour ∷ prim ∷ []) (culls f3dex2 (k .state .geometry)) (k .state .microcode))))
           marked (N .held .scales) (N .held .rows)
           (record { light-table = N .held .recorded .light-table; lookat-table = N .held .recorded .lookat-table; fog-table = N .held .recorded .fog-table; fog-pairs = N .held .recorded .fog-pairs; indices = indexed; runs = run }),
     ))
@@ -166,16 +167,16 @@ draw-agrees {D} {P} {X} {R} {k} {w} N a b c material mode colour prim =
         let S = N .held .slots in
         record { row = S .row; loaded = S .loaded; drawn = ap (λ (d : List Bool). mark d (a ∷ b ∷ c ∷ [])) (S .drawn); coded = S .coded; code = S .code; deep = S .deep; z = S .z }
 
-    indexed : k .indices .used ++ triangle f3dex2 (k .state) a b c
+    indexed : k .drawing .indices .used ++ triangle f3dex2 (k .state) a b c
         ≡ map (λ (i : ℕ). i ∷ []) (w .scene .indices ++ getD (w .rsp .slots .cache-global-index) (cond (eqb (bitAnd (w .rsp .geom) g-cull-both) g-cull-front) c a) 0 ∷ getD (w .rsp .slots .cache-global-index) b 0 ∷ getD (w .rsp .slots .cache-global-index) (cond (eqb (bitAnd (w .rsp .geom) g-cull-both) g-cull-front) a c) 0 ∷ [])
     indexed =
         rw (three-more, front, ← (N .held .slots .row), ← (N .held .recorded .indices))
-        (ap (λ (t : List (List ℕ)). k .indices .used ++ t) (turned-same (k .state .row) (swaps f3dex2 (k .state .geometry)) a b c))
+        (ap (λ (t : List (List ℕ)). k .drawing .indices .used ++ t) (turned-same (k .state .row) (swaps f3dex2 (k .state .geometry)) a b c))
 
     six : settings (material ∷ mode ∷ colour ∷ prim ∷ []) (culls f3dex2 (k .state .geometry)) (k .state .microcode) ≡ material ∷ mode ∷ colour ∷ prim ∷ bit (not (eqb (bitAnd (w .rsp .geom) g-cull-both) 0)) ∷ bit (is-non (w .rsp .microcode)) ∷ []
     six = rw (some-side, N .modes .settings .microcode, non-same (w .rsp .microcode))
 
-    run : edit (runEdit (k .runs .used) (length (k .indices .used)) (settings (material ∷ mode ∷ colour ∷ prim ∷ []) (culls f3dex2 (k .state .geometry)) (k .state .microcode))) (k .runs .used)
+    run : edit (runEdit (k .drawing .runs .used) (length (k .drawing .indices .used)) (settings (material ∷ mode ∷ colour ∷ prim ∷ []) (culls f3dex2 (k .state .geometry)) (k .state .microcode))) (k .drawing .runs .used)
         ≡ map runNumbers (runs-then (λ (q : DrawRun). coalesces q (not (eqb (bitAnd (w .rsp .geom) g-cull-both) 0)) (is-non (w .rsp .microcode)) material mode colour prim)
         (record { material-index = material; render-mode-index = mode; fog-color = colour; prim-depth = prim; cull = not (eqb (bitAnd (w .rsp .geom) g-cull-both) 0); unclipped-depth = is-non (w .rsp .microcode); index-count = 3; index-start = length (w .scene .indices) })
         (w .scene .draw-runs))

@@ -25,9 +25,8 @@ use Rattle.fold.specs.Fog.{find}
 use Rattle.fold.specs.Scales.{sameScale}
 use Rattle.fold.specs.Decision.{refold}
 use Rattle.vertex.specs.Vertices.{floatsOf, wordsOf, clipOf, slotAt, slotOf, verticesAt}
-use Rattle.change.specs.Decoded.{decoded, floatsAfter, wordsAfter, depthAfter}
-use Rattle.change.specs.Decoded.{appends}
-use Rattle.stage.specs.Modify.{moved}
+use Rattle.change.specs.Decoded.{decoded, floatsAfter, wordsAfter, depthAfter, appends}
+use Rattle.stage.specs.Modify.{moved, asking, changed, changePlan, modifyPlan}
 use Rattle.triangle.specs.Run.{closed, sameRun}
 use Rattle.triangle.specs.Slot.{held}
 use Rattle.stage.specs.Plan.{Plan, refuse, does, pick, unless, appended, appending}
@@ -38,7 +37,6 @@ use Rattle.stage.specs.Matrices.{combine, turned, matrixPlan, popPlan, viewing,
 use Rattle.stage.specs.Lights.{texturePlan, fogPlan, lightIn, axisIn, numberPlan, ambientPlan, slotPlan, lightPlan, lookatPlan}
 use Rattle.stage.specs.Load.{settled, settledState, sharedBy, loadEdits, loadPlan}
 use Rattle.stage.specs.Rows.{fillSlot, fillSlots}
-use Rattle.stage.specs.Modify.{asking, changed, changePlan, modifyPlan}
 use Rattle.stage.specs.Draw.{runEdit, drawPlan}
 use Rattle.stage.proofs.Judged.{and-left, and-right}
 use Rattle.sequence.specs.Sequence.{Command, load, draw, modify, Areas, Book, isDone, opening, plan}
@@ -134,8 +132,7 @@ lent =
       fogs = pos 0 ∷ pos 0 ∷ [];
       floats = zeros 45;
       words = replicate 50 0;
-      indices = replicate 6 0;
-      runs = replicate 8 0;
+      drawing = record { indices = replicate 6 0; runs = replicate 8 0 };
     }
 
 -- all of them, and what is in use at the end
@@ -145,7 +142,7 @@ every = prologue example ++ further
 abbrev end : Book
 end = course stage every (opened-book lent)
 
-computed : (all-done every (opened-book lent) ≡ true) × (length (end .indices .used) ≡ 6)
+computed : (all-done every (opened-book lent) ≡ true) × (length (end .drawing .indices .used) ≡ 6)
 unfolding toBits ofInt round add mul div neg lt le eq ne ofRatio isRatio root.step root.root root.rootBy root.rooted root.sqrt rowTimes colTimes times rows laid bitsOf codeOf screenOf depthOf entryAt rowAt matrixAt vertexAt tripleAt viewportAt colourAt directionAt lightAt put write matches eqbℤ texgenMode slotted made pushed popped relit folded lightEntry directional lightEntries lookatEntry find sameScale refold floatsOf wordsOf clipOf slotAt slotOf verticesAt decoded floatsAfter wordsAfter depthAfter appends moved closed sameRun held pick unless appended appending all stateSound blank start.opened combine turned matrixPlan popPlan viewing viewportPlan geometryPlan texturePlan fogPlan lightIn axisIn numberPlan ambientPlan slotPlan lightPlan lookatPlan settled settledState sharedBy loadEdits loadPlan fillSlot fillSlots asking changed changePlan modifyPlan runEdit drawPlan plan turn course
 computed = (refl, refl)
 
@@ -175,5 +172,5 @@ not-empty =
       commands = further;
       within = within;
       done = on-port every (opening lent) (o .0) (subst (DoneFrom every) (sym (o .1)) (all-done-is every (opened-book lent) (computed .0)));
-      triangles = ap (λ (k : Book). length (k .indices .used)) (run-book familyOf limit every (opening lent) (o .0) .1 ∙ ap (course stage every) (o .1)) ∙ computed .1;
+      triangles = ap (λ (k : Book). length (k .drawing .indices .used)) (run-book familyOf limit every (opening lent) (o .0) .1 ∙ ap (course stage every) (o .1)) ∙ computed .1;
     }

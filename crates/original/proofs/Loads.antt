@@ -22,11 +22,10 @@ use Rattle.vertex.specs.declared.Shared.{Shared}
 use Rattle.vertex.specs.Vertices.{slotOf, verticesAt}
 use Rattle.stage.specs.declared.State.{State}
 use Rattle.stage.specs.declared.load.Settled.{Settled}
-use Rattle.stage.specs.Plan.{Row, pick, counted}
+use Rattle.stage.specs.Plan.{Row, pick, counted, onlyIf}
 use Rattle.stage.specs.Matrices.{modelTop}
 use Rattle.stage.specs.With.{withSlots, slotsOf}
 use Rattle.stage.specs.Load.{lightsThen, lookatThen, settled, settledState, sharedBy, vertexRow, loadEdits}
-use Rattle.stage.specs.Plan.{onlyIf}
 use Rattle.stage.specs.Rows.{fillSlot, fillSlots}
 use Rattle.sequence.specs.Sequence.{load, Book, loadOf, plan}
 use Rattle.sequence.proofs.Turn.{edit, enter}

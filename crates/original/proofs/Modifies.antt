@@ -23,21 +23,19 @@ use Rattle.change.specs.declared.Change.the-variants.{Colour, Texture, Screen, 
 use Rattle.change.specs.declared.Asked.{Asked}
 use Rattle.change.specs.declared.Asked.the-variants.{Known, Unknown}
 use Rattle.change.specs.declared.judge.Moved.{Moved}
-use Rattle.change.specs.Decoded.{reversed, highBy, lowBy, decoded, floatsAfter, wordsAfter, depthAfter}
-use Rattle.change.specs.Decoded.{unitEntry, appends}
-use Rattle.stage.specs.Modify.{moved}
+use Rattle.change.specs.Decoded.{reversed, highBy, lowBy, decoded, floatsAfter, wordsAfter, depthAfter, unitEntry, appends}
+use Rattle.stage.specs.Modify.{moved, edits37, scaleEdit, rowAfter, rowEdit, rowChange, changed}
 use Rattle.change.proofs.Kept.{floats-kept, words-kept}
 use Rattle.stage.specs.Plan.{Row, Edits, keep, grow, pick}
-use Rattle.stage.specs.Modify.{edits37, scaleEdit, rowAfter, rowEdit, rowChange, changed}
 use Rattle.sequence.specs.Sequence.{modify, Book, plan}
 use Rattle.sequence.proofs.Turn.{edit, enter}
 use Rattle.sequence.proofs.Accepts.{Accepted, on-modify}
-use Rattle.finished.specs.Shown.{noRow}
+use Rattle.finished.specs.Shown.{noRow, rowWord}
 use Rattle.original.specs.Math.{f0, f1}
 use Rattle.original.specs.Rsp.{Slots, Viewports, Texcoords, Rsp}
 use Rattle.original.specs.Drawing.{Columns, Scene, Made, push, made-at, unit-index, unit-then, modify-colour, modify-texture, modify-screen-at, map-some, copied-slots, with-screen-z, with-modified, with-columns, change-at, known, modify-vertex}
 use Rattle.original.specs.Walk.{World, with-both, execute}
-use Rattle.original.specs.Relation.{word, over, Offsets, UnitSame, ScaleSame, isSome, orElse, SlotsSame, made-of, Since, RowsSame, Near}
+use Rattle.original.specs.Relation.{over, Offsets, UnitSame, ScaleSame, isSome, orElse, SlotsSame, made-of, Since, RowsSame, Near}
 use Rattle.original.specs.Domain.{Agrees}
 use Rattle.original.proofs.Readers.{halves-same, depth-same, wide-same, swap-same}
 use Rattle.original.proofs.Views.{meets-more, next-number, fours-snoc, length-fours, snoc-pairs}
@@ -108,7 +106,7 @@ getD-set {A} l i j a d = go (eqb i j) refl
     go false e = getD-set-other l i j a d (λ q. eqb-false i j e (sym q))
 
 -- a row stays whole
-whole : (c : Change) (o : Offsets) (u : ℕ) (r : Row) → Since o r → o .port2 ≤ word viewportWord (rowAfter c u r) → o .port3 ≤ word scaleWord (rowAfter c u r) → Since o (rowAfter c u r)
+whole : (c : Change) (o : Offsets) (u : ℕ) (r : Row) → Since o r → o .port2 ≤ rowWord (rowAfter c u r) viewportWord → o .port3 ≤ rowWord (rowAfter c u r) scaleWord → Since o (rowAfter c u r)
 whole c o u r h v s = record { floats = floats-kept c (r .floats) ∙ h .floats; words = words-kept c (u - 1) (r .words) ∙ h .words; viewport = v; scale = s }
 
 -- all that is shown of a kind of change by itself: a row of ours, changed, is the original's row altered, and names entries that came at the

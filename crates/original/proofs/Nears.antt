@@ -8,7 +8,7 @@ use Rattle.stage.specs.declared.Lights.{Lights}
 use Rattle.stage.specs.declared.Lookat.{Lookat}
 use Rattle.stage.specs.declared.Texture.{Texture}
 use Rattle.stage.specs.With.{withGeometry, withFog, withTexture, withLights, withLookat, withModel, withProjection, withCombined, withViewport, withUnit, withSlots}
-use Rattle.stage.specs.Plan.{Edit, Edits, keep, Row, untouched}
+use Rattle.stage.specs.Plan.{Edit, Edits, keep, Row, undrawn, untouched}
 use Rattle.sequence.specs.Sequence.{Book}
 use Rattle.sequence.proofs.Turn.{edit, enter}
 use Rattle.sequence.proofs.Counted.{counted-then}
@@ -20,12 +20,12 @@ use Rattle.original.specs.Relation.{MatrixSame, LightsSame, LookSame, Sl
 -- edits of tables 1 and 2 alone
 abbrev edits12 : Edit (List Float) → Edit (List Float) → Edits
 edits12 e f =
-    record { matrices = e; viewports = f; scales = keep; lights = keep; lookats = keep; fogs = keep; rows = keep; indices = keep; runs = keep }
+    record { matrices = e; viewports = f; scales = keep; lights = keep; lookats = keep; fogs = keep; rows = keep; drawing = undrawn }
 
 -- edits of the others alone
 abbrev others : Edits → Edits
 others e =
-    record { matrices = keep; viewports = keep; scales = e .scales; lights = e .lights; lookats = e .lookats; fogs = e .fogs; rows = e .rows; indices = e .indices; runs = e .runs }
+    record { matrices = keep; viewports = keep; scales = e .scales; lights = e .lights; lookats = e .lookats; fogs = e .fogs; rows = e .rows; drawing = e .drawing }
 
 module _ {D : Bool → Bool → Type 0} {G : ℕ → ℕ → Type 0} {P : List Float → List (List Float) → Viewports → Type 0} {X : ℕ → List (List Float) → Texcoords → Type 0} {R : List Row → Columns → Type 0} {k : Book} {w : World} (N : Near D G P X R k w) where
   -- other settings, lights and lookat

@@ -14,19 +14,17 @@ use Rattle.decide.specs.Judge.{Lent, fits}
 use Rattle.change.specs.declared.Asked.{Asked}
 use Rattle.change.specs.declared.Asked.the-variants.{Known, Unknown}
 use Rattle.change.specs.Decoded.{decoded}
-use Rattle.triangle.specs.Slot.{held}
+use Rattle.triangle.specs.Slot.{held, culls}
 use Rattle.stage.specs.declared.State.{State}
-use Rattle.stage.specs.Modify.{moved}
+use Rattle.stage.specs.Modify.{moved, scaleEdit, rowChange, asking, changePlan, modifyPlan, inkPlan}
 use Rattle.stage.specs.Plan.{Table, Edit, keep, grow, Edits, Plan, refuse, does, unless, pick, lent, judge, appended, appending, untouched}
 use Rattle.stage.specs.Sound.{stateSound}
 use Rattle.stage.specs.Matrices.{combine, matrixPlan, forcePlan, popPlan, viewing, viewportPlan, geometryPlan}
 use Rattle.stage.specs.Lights.{texturePlan, fogPlan, numberPlan, lightPlan, ambientPlan, slotPlan, lookatPlan, microcodePlan}
 use Rattle.decide.specs.Family.{f3dex2}
 use Rattle.triangle.specs.Run.{settings}
-use Rattle.triangle.specs.Slot.{culls}
 use Rattle.vertex.specs.Vertices.{verticesAt}
 use Rattle.stage.specs.Load.{settled, loadEdits, loadLent, loadPlan}
-use Rattle.stage.specs.Modify.{scaleEdit, rowChange, asking, changePlan, modifyPlan, inkPlan}
 use Rattle.stage.specs.Draw.{slotsFrom, judgeCodes, cullPlan, depthPlan, judgeEver, triangle, runEdit, drawPlan}
 use Rattle.sequence.specs.Sequence.{Command, matrix, force, pop, viewport, geometry, texture, fog, number, light, lookat, microcode, load, cull, depth, modify, draw, ink, Book, loadOf, plan}
 use Rattle.original.specs.Drawing.{common, cull-display-list, branch-z, known, modify-vertex}
@@ -246,5 +244,5 @@ module _ {o : Offsets} {k : Book} {w : World} (N : Same o k w) where
       (re-pick _ _ _ _ (quiet d _ _ _)
       (re-ever _ 256 (k .state) (a ∷ b ∷ c ∷ []) _ (not-one d 6 (omega arith))
       (re-unless _ _ 10 [] _ (λ _. not-one d 10 (omega arith) [])
-      (λ _. short-refused d (lent 8 (k .indices) keep ∷ lent 9 (k .runs) keep ∷ []) _ (re-unless _ _ 10 [] _ (λ _. not-one d 10 (omega arith) []) (λ _. re-judge _ 9 (lent 8 (k .indices) (grow (triangle f3dex2 (k .state) a b c)) ∷ lent 9 (k .runs) (runEdit (k .runs .used) (length (k .indices .used)) (settings (material ∷ mode ∷ colour ∷ prim ∷ []) (culls f3dex2 (k .state .geometry)) (k .state .microcode))) ∷ []) _ (not-one d 9 (omega arith)) (quiet d _ _ _)))))))
-  refused-too (ink colour) = let c : Command = ink colour in sound-refused c _ (short-refused c (lent 7 (k .rows) keep ∷ lent 8 (k .indices) keep ∷ []) _ (quiet c _ _ _))
+      (λ _. short-refused d (lent 8 (k .drawing .indices) keep ∷ lent 9 (k .drawing .runs) keep ∷ []) _ (re-unless _ _ 10 [] _ (λ _. not-one d 10 (omega arith) []) (λ _. re-judge _ 9 (lent 8 (k .drawing .indices) (grow (triangle f3dex2 (k .state) a b c)) ∷ lent 9 (k .drawing .runs) (runEdit (k .drawing .runs .used) (length (k .drawing .indices .used)) (settings (material ∷ mode ∷ colour ∷ prim ∷ []) (culls f3dex2 (k .state .geometry)) (k .state .microcode))) ∷ []) _ (not-one d 9 (omega arith)) (quiet d _ _ _)))))))
+  refused-too (ink colour) = let c : Command = ink colour in sound-refused c _ (short-refused c (lent 7 (k .rows) keep ∷ lent 8 (k .drawing .indices) keep ∷ []) _ (quiet c _ _ _))

@@ -23,9 +23,8 @@ use Rattle.fold.specs.Lights.{lightEntry, directional, lightEntries}
 use Rattle.fold.specs.Lookat.{lookatEntry}
 use Rattle.stage.specs.declared.Lights.{Lights}
 use Rattle.stage.specs.declared.Lookat.{Lookat}
-use Rattle.stage.specs.Plan.{pick}
+use Rattle.stage.specs.Plan.{pick, onlyIf}
 use Rattle.stage.specs.With.{foldedLights, foldedLookat}
-use Rattle.stage.specs.Plan.{onlyIf}
 use Rattle.sequence.proofs.Turn.{edit}
 use Rattle.original.specs.Math.{Mat4, f0, mul4, mul-col-vec3}
 use Rattle.original.specs.Rsp.{Matrices, Lighting, Looking, eq-mat, key-is, mv-top, prepare-vertex, recompute-mvp}

@@ -18,10 +18,9 @@ use Rattle.stage.specs.Sound.{limit}
 use Rattle.fold.specs.Scales.{scaleEntry, sameScale}
 use Rattle.fold.specs.Direction.{three}
 use Rattle.layout.specs.Layout.{viewportAt}
-use Rattle.stage.specs.Plan.{keep, grow, Row, pick}
+use Rattle.stage.specs.Plan.{keep, grow, Row, pick, onlyIf}
 use Rattle.stage.specs.Opening.{zeros, blank, opened}
 use Rattle.stage.specs.Matrices.{viewportEntry}
-use Rattle.stage.specs.Plan.{onlyIf}
 use Rattle.sequence.specs.Sequence.{viewport, Areas, Book, plan}
 use Rattle.sequence.proofs.Turn.{edit, enter}
 use Rattle.sequence.proofs.Accepts.{Accepted, on-viewport}

@@ -175,7 +175,7 @@ pub record Inhabited (n : ℕ) : Type 0 where
   pub commands : List Command
   pub within : AllWithin (prologue arguments ++ commands)
   pub done : AllDone (prologue arguments ++ commands) (opening areas)
-  pub triangles : length (book (run stage (prologue arguments ++ commands) (opening areas)) .indices .used) ≡ 3 * n
+  pub triangles : length (book (run stage (prologue arguments ++ commands) (opening areas)) .drawing .indices .used) ≡ 3 * n
 
 -- ---- refusals that are the original's too
 

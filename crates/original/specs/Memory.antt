@@ -1,12 +1,11 @@
 -- The readers of mem.rs that rsp.rs uses, over the bytes of an RdramImage; lines are those of the Rust. Definitions only.
 use Prim.Native.Nat.{ℕ, _+_, _*_, _%_}
-use mathlib.Core.Bool.{cond}
+use mathlib.Core.Bool.{cond, false}
 use mathlib.Core.List.{List, [], _∷_}
 use lib.ListN.{getD}
 use lib.Dec.{ltb}
 use lib.IntN.{ℤ, pos, _+ℤ_, _*ℤ_}
 use lib.Ieee.{Float, binary32, div, ofInt, minus, fin}
-use mathlib.Core.Bool.{false}
 use Rattle.original.specs.Math.{Mat4}
 
 -- the image's bytes

@@ -23,7 +23,7 @@ use Rattle.stage.specs.Plan.{Row, pick}
 use Rattle.stage.specs.Lights.{microcodeNumber}
 use Rattle.sequence.specs.Sequence.{Book}
 use Rattle.sequence.specs.Counted.{Counted}
-use Rattle.finished.specs.Shown.{Corner, entriesOf, fogShown, noRow, shown}
+use Rattle.finished.specs.Shown.{Corner, entriesOf, fogShown, noRow, rowWord, shown}
 use Rattle.original.specs.Math.{Mat4, f1}
 use Rattle.original.specs.Rsp.{Slots, Matrices, Viewports, TextureState, Texcoords, Lighting, Looking}
 use Rattle.original.specs.Drawing.{Columns, DrawRun, Scene, Made, made-at}
@@ -145,10 +145,7 @@ pub record SlotsSame (r : List ℕ) (l d c : List Bool) (q : List ℕ) (e : List
 
 -- ---- rows, indices and runs
 
--- number i of a row's u32, and of its f32
-abbrev pub word : ℕ → Row → ℕ
-word i r = getD (r .words) i 0
-
+-- number i of a row's f32
 abbrev pub float : ℕ → Row → Float
 float i r = at (r .floats) i
 
@@ -157,18 +154,18 @@ unfoldable pub made-of : Offsets → Row → Made
 made-of o r =
     record {
       pos = float 0 r ∷ float 1 r ∷ float 2 r ∷ [];
-      flags = word flagsWord r;
+      flags = rowWord r flagsWord;
       screen = float screenX r ∷ float screenY r ∷ float screenZ r ∷ float 8 r ∷ [];
-      mtx = word matrixWord r;
-      viewport = over (o .port2) (o .rust2) (word viewportWord r);
+      mtx = rowWord r matrixWord;
+      viewport = over (o .port2) (o .rust2) (rowWord r viewportWord);
       st = float sFloat r ∷ float tFloat r ∷ [];
-      texcoord = over (o .port3) (o .rust3) (word scaleWord r);
-      colour = word colourWord r;
-      light = word lightWord r;
-      count = word lightsWord r;
-      texgen = word texgenWord r;
-      fog = word fogWord r;
-      lookat = word lookatWord r;
+      texcoord = over (o .port3) (o .rust3) (rowWord r scaleWord);
+      colour = rowWord r colourWord;
+      light = rowWord r lightWord;
+      count = rowWord r lightsWord;
+      texgen = rowWord r texgenWord;
+      fog = rowWord r fogWord;
+      lookat = rowWord r lookatWord;
     }
 
 -- its lists, of all rows
@@ -194,8 +191,8 @@ columns-of o rs =
 pub record Since (o : Offsets) (r : Row) : Type 0 where
   pub floats : length (r .floats) ≡ floatWidth
   pub words : length (r .words) ≡ wordWidth
-  pub viewport : o .port2 ≤ word viewportWord r
-  pub scale : o .port3 ≤ word scaleWord r
+  pub viewport : o .port2 ≤ rowWord r viewportWord
+  pub scale : o .port3 ≤ rowWord r scaleWord
 
 -- every row is such a one, and the lists of the scene hold their numbers of all rows
 pub record RowsSame (o : Offsets) (rs : List Row) (c : Columns) : Type 0 where
@@ -231,8 +228,8 @@ RecordedSame k c =
       lookat-table : k .lookats .used ≡ map joined (c .lookat-table);
       fog-table : k .fogs .used ≡ c .fog-table;
       fog-pairs : Wide fogWidth (c .fog-table);
-      indices : k .indices .used ≡ map (λ (i : ℕ). i ∷ []) (c .indices);
-      runs : k .runs .used ≡ map runNumbers (c .draw-runs);
+      indices : k .drawing .indices .used ≡ map (λ (i : ℕ). i ∷ []) (c .indices);
+      runs : k .drawing .runs .used ≡ map runNumbers (c .draw-runs);
     }
 
 -- ---- the whole, in groups by what changes together, over what is said of the parts that begin differently: whether the matrix is defined (D),

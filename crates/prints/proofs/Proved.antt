@@ -21,11 +21,9 @@ use Rattle.stage.specs.Opening as opening
 use Rattle.stage.specs.Matrices.{viewing, viewportPlan}
 use Rattle.stage.specs.Load.{settled, settledState, sharedBy, loadEdits, loadPlan}
 use Rattle.stage.specs.Rows.{fillSlot, fillSlots}
-use Rattle.stage.specs.Modify.{asking, changed, changePlan, modifyPlan}
+use Rattle.stage.specs.Modify.{asking, changed, changePlan, modifyPlan, moved}
 use Rattle.stage.specs.Draw.{cullPlan, depthPlan, runEdit, drawPlan}
-use Rattle.change.specs.Decoded.{decoded, floatsAfter, wordsAfter, depthAfter}
-use Rattle.change.specs.Decoded.{appends}
-use Rattle.stage.specs.Modify.{moved}
+use Rattle.change.specs.Decoded.{decoded, floatsAfter, wordsAfter, depthAfter, appends}
 use Rattle.triangle.specs.Run.{closed, sameRun}
 use Rattle.triangle.specs.Slot.{held}
 use Rattle.prints.specs.Prints.{Prints, load, modify, drawn, three, twice}

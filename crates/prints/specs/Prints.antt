@@ -9,15 +9,15 @@ use lib.Ieee.{Float, binary32, binary64, toBits}
 use Rattle.numbers.specs.Ratio.{signed, ofRatio, isRatio}
 use Rattle.numbers.specs.Sqrt.{sqrt}
 use Rattle.matrix.specs.Math.{at}
-use Rattle.decide.specs.Family.{f3dex2}
 use Rattle.decide.specs.Lights.{lightNumber}
 use Rattle.stage.specs.declared.State.{State}
-use Rattle.stage.specs.Plan.{Outcome, carry, table, rowTable, nothing}
+use Rattle.stage.specs.Plan.{Outcome, carry, table, nothing}
+use Rattle.stage.specs.Sound.{limit}
 use Rattle.stage.specs.Opening.{zeros, blank, openingPlan, areas12}
 use Rattle.stage.specs.Matrices.{viewportPlan, area2}
-use Rattle.stage.specs.Load.{loadPlan, loadAreas, loadTables, areasLoad, LoadAreas}
-use Rattle.stage.specs.Modify.{modifyPlan, areas37}
-use Rattle.stage.specs.Draw.{cullPlan, depthPlan, drawPlan, areas89}
+use Rattle.stage.specs.Load.{loadAreas, LoadAreas, loadMeans}
+use Rattle.stage.specs.Modify.{modifyMeans}
+use Rattle.stage.specs.Draw.{cullPlan, depthPlan, drawMeans}
 use Rattle.layout.specs.Layout.{entryAt, viewportAt}
 
 -- x is the fraction z / d, exactly
@@ -59,7 +59,7 @@ lentAreas = loadAreas (opening .areas .0) (zeros 8) [] [] [] (zeros 36) (replica
 
 -- a load of n vertices into the slots from first on
 unfoldable pub load : State → LoadAreas → ℕ → ℕ → List ℕ → Outcome LoadAreas
-load s l first n bytes = carry areasLoad (loadPlan f3dex2 256 s (loadTables (s .counts) l) first n bytes 0) s l
+load s l first n bytes = loadMeans s first n bytes 0 l
 
 -- the state after one vertex of these bytes is loaded into slot 0
 abbrev pub loaded : State → List ℕ → State
@@ -67,11 +67,7 @@ loaded s bytes = load s lentAreas 0 1 bytes .state
 
 -- a modify of a slot, after what o came to
 unfoldable pub modify : Outcome LoadAreas → ℕ → ℕ → ℕ → Outcome (List Float × List Float × List ℕ)
-modify o slot attribute value =
-    carry areas37
-    (modifyPlan 256 (o .state) (table 4 (o .state .counts .scales) (o .areas .scales)) (rowTable (o .state .counts .rows) (o .areas .floats) (o .areas .words)) slot attribute value)
-    (o .state)
-    (o .areas .scales, o .areas .floats, o .areas .words)
+modify o slot attribute value = modifyMeans (o .state) slot attribute value (o .areas .scales, o .areas .floats, o .areas .words)
 
 -- a modify of slot 0, after one vertex with a screen z is loaded into it
 abbrev pub modified : ℕ → ℕ → Outcome (List Float × List Float × List ℕ)
@@ -79,7 +75,7 @@ modified attribute value = modify (load viewing lentAreas 0 1 (pointBytes 0 0 0 
 
 -- a draw of slots 0, 1 and 2 with the areas l
 unfoldable pub drawn : State → List ℕ × List ℕ → Outcome (List ℕ × List ℕ)
-drawn s l = carry areas89 (drawPlan f3dex2 256 s (table 1 (s .counts .indices) (l .0)) (table 8 (s .counts .runs) (l .1)) 0 1 2 (0 ∷ 0 ∷ 0 ∷ 0 ∷ [])) s l
+drawn s l = drawMeans s 0 1 2 (0 ∷ 0 ∷ 0 ∷ 0 ∷ []) l
 
 -- slot 0 has the clip code n
 abbrev pub Code : State → ℕ → Type 0
@@ -94,7 +90,7 @@ abbrev pub deep : State
 deep = loaded viewing (pointBytes 0 0 0 0 0 1)
 
 abbrev pub Near : ℕ → ℕ → Type 0
-Near threshold n = carry nothing (depthPlan 256 deep 0 threshold) deep tt .values ≡ n ∷ []
+Near threshold n = carry nothing (depthPlan (limit deep) deep 0 threshold) deep tt .values ≡ n ∷ []
 
 -- three loads, of a vertex each, into slots 0, 1 and 2
 unfoldable pub three : Outcome LoadAreas
@@ -130,7 +126,7 @@ pub record Prints : Type 0 where
   -- 9. identity, points (1,0,0), (2,0,0), (2,-3,4): codes 0, 2, 38
   pub case9 : Code (loaded opened (pointBytes 0 1 0 0 0 0)) 0 × Code (loaded opened (pointBytes 0 2 0 0 0 0)) 2 × Code (loaded opened (pointBytes 0 2 0xFF 0xFD 0 4)) 38
   -- 10. codes 34 and 32: not culled
-  pub case10 : (Code both 34 × (getD (both .code) 1 99 ≡ 32)) × (carry nothing (cullPlan 256 both 0 1) both tt .values ≡ 0 ∷ [])
+  pub case10 : (Code both 34 × (getD (both .code) 1 99 ≡ 32)) × (carry nothing (cullPlan (limit both) both 0 1) both tt .values ≡ 0 ∷ [])
   -- 11. point (0,0,1), z scale and translation 511: screen z 1022; threshold 66977792 yes, 66977791 no
   pub case11 : ((getD (deep .deep) 0 false ≡ true) × Is (at (deep .z) 0) (pos 1022) 1) × (Near 66977792 1 × Near 66977791 0)
   -- 12. three loads, draw 0 1 2, modify slot 1, draw again: indices 0 1 2 0 3 2, one run of 6

@@ -8,20 +8,20 @@ use lib.IntN.{ℤ}
 use lib.Ieee.{Float}
 use borrow.Author.Tests.{ne-eqb}
 use Rattle.numbers.specs.Ratio.{signed}
-use Rattle.decide.specs.Family.{f3dex2, familyOf}
+use Rattle.decide.specs.Family.{familyOf}
 use Rattle.decide.specs.Lights.{lightNumber}
 use Rattle.stage.specs.Sound.{limit}
 use Rattle.numbers.specs.Choice.{pick}
 use Rattle.stage.specs.declared.State.{State}
 use Rattle.stage.specs.declared.Answered.{Answered}
 use Rattle.stage.specs.declared.Answer.the-variants.{Done}
-use Rattle.stage.specs.Plan.{table, rowTable, Outcome, outcome, carry, nothing}
+use Rattle.stage.specs.Plan.{rowTable, Outcome, outcome, carry, nothing, matrixArea, viewportArea, indexArea, tableIn}
 use Rattle.stage.specs.Opening.{blank, openingPlan, areas12}
 use Rattle.stage.specs.Matrices.{area1, area2, matrixPlan, forcePlan, popPlan, viewportPlan, geometryPlan}
 use Rattle.stage.specs.Lights.{texturePlan, fogPlan, numberPlan, lightPlan, lookatPlan, microcodePlan}
-use Rattle.stage.specs.Load.{LoadAreas, areasLoad, loadTables, loadPlan}
-use Rattle.stage.specs.Modify.{areas37, modifyPlan, inkPlan}
-use Rattle.stage.specs.Draw.{areas89, cullPlan, depthPlan, drawPlan}
+use Rattle.stage.specs.Load.{LoadAreas, loadMeans}
+use Rattle.stage.specs.Modify.{modifyMeans, inkPlan}
+use Rattle.stage.specs.Draw.{cullPlan, depthPlan, drawMeans}
 use Rattle.sequence.specs.Sequence.{Areas, with12}
 use Rattle.sequence.proofs.Joined as joined
 use Rattle.replay.specs.declared.rooms.Lengths.{Lengths}
@@ -37,7 +37,7 @@ NoneOf n (k ∷ ks) = NoneOf n ks × (n ≡ k → ⊥)
 -- ---- the ops that are lent no area
 
 module _ (c : Call) (d : List ℕ) (s : State) (r : Answered) where
-  pub set-geometry : c .op ≡ 0x05 → outcome r tt ≡ carry nothing (geometryPlan f3dex2 s (c .args .a) (c .args .b)) s tt → SetAre c d s r
+  pub set-geometry : c .op ≡ 0x05 → outcome r tt ≡ carry nothing (geometryPlan (familyOf (s .microcode)) s (c .args .a) (c .args .b)) s tt → SetAre c d s r
   unfolding setBy pick
   set-geometry e h l = joined.joined-geometry familyOf limit (record { state = s; areas = l }) (c .args .a) (c .args .b) r h ∙ rw e
 
@@ -63,11 +63,11 @@ module _ (c : Call) (d : List ℕ) (s : State) (r : Answered) where
   unfolding setBy pick
   set-lookat e h l = joined.joined-lookat familyOf limit (record { state = s; areas = l }) (c .args .a) d 0 r h ∙ rw e
 
-  pub set-cull : c .op ≡ 0x0d → outcome r tt ≡ carry nothing (cullPlan 256 s (c .args .a) (c .args .b)) s tt → SetAre c d s r
+  pub set-cull : c .op ≡ 0x0d → outcome r tt ≡ carry nothing (cullPlan (limit s) s (c .args .a) (c .args .b)) s tt → SetAre c d s r
   unfolding setBy pick
   set-cull e h l = joined.joined-cull familyOf limit (record { state = s; areas = l }) (c .args .a) (c .args .b) r h ∙ rw e
 
-  pub set-depth : c .op ≡ 0x0e → outcome r tt ≡ carry nothing (depthPlan 256 s (c .args .a) (c .args .b)) s tt → SetAre c d s r
+  pub set-depth : c .op ≡ 0x0e → outcome r tt ≡ carry nothing (depthPlan (limit s) s (c .args .a) (c .args .b)) s tt → SetAre c d s r
   unfolding setBy pick
   set-depth e h l = joined.joined-depth familyOf limit (record { state = s; areas = l }) (c .args .a) (c .args .b) r h ∙ rw e
 
@@ -100,22 +100,22 @@ module _ (c : Call) (d : List ℕ) (s : State) (r : Answered) (m v : List Float)
       q ∙ rw e
 
   pub turn-matrix : (f : ℕ) (m′ : List Float) → c .op ≡ 0x02 → f ≡ c .args .a % 256
-      → outcome r m′ ≡ carry area1 (matrixPlan f3dex2 s (table 16 (s .counts .matrices) m) f d 0) s m → TurnAre c d s (m, v) r (m′, v)
+      → outcome r m′ ≡ carry area1 (matrixPlan (familyOf (s .microcode)) s (tableIn matrixArea (s .counts) m) f d 0) s m → TurnAre c d s (m, v) r (m′, v)
   unfolding turnBy pick
   turn-matrix f m′ e g h l = joined.joined-matrix familyOf limit (record { state = s; areas = with12 l (m, v) }) f d 0 r m′ h ∙ rw (e, g)
 
   pub turn-force : (m′ : List Float) → c .op ≡ 0x03
-      → outcome r m′ ≡ carry area1 (forcePlan s (table 16 (s .counts .matrices) m) d 0) s m → TurnAre c d s (m, v) r (m′, v)
+      → outcome r m′ ≡ carry area1 (forcePlan s (tableIn matrixArea (s .counts) m) d 0) s m → TurnAre c d s (m, v) r (m′, v)
   unfolding turnBy pick
   turn-force m′ e h l = joined.joined-force familyOf limit (record { state = s; areas = with12 l (m, v) }) d 0 r m′ h ∙ rw e
 
   pub turn-pop : (m′ : List Float) → c .op ≡ 0x04
-      → outcome r m′ ≡ carry area1 (popPlan s (table 16 (s .counts .matrices) m) (c .args .a)) s m → TurnAre c d s (m, v) r (m′, v)
+      → outcome r m′ ≡ carry area1 (popPlan s (tableIn matrixArea (s .counts) m) (c .args .a)) s m → TurnAre c d s (m, v) r (m′, v)
   unfolding turnBy pick
   turn-pop m′ e h l = joined.joined-pop familyOf limit (record { state = s; areas = with12 l (m, v) }) (c .args .a) r m′ h ∙ rw e
 
   pub turn-viewport : (v′ : List Float) → c .op ≡ 0x06
-      → outcome r v′ ≡ carry area2 (viewportPlan s (table 6 (s .counts .viewports) v) d 0) s v → TurnAre c d s (m, v) r (m, v′)
+      → outcome r v′ ≡ carry area2 (viewportPlan s (tableIn viewportArea (s .counts) v) d 0) s v → TurnAre c d s (m, v) r (m, v′)
   unfolding turnBy pick
   turn-viewport v′ e h l = joined.joined-viewport familyOf limit (record { state = s; areas = with12 l (m, v) }) d 0 r v′ h ∙ rw e
 
@@ -133,28 +133,26 @@ ApplyAre c d s l r x = outcome r x ≡ applyBy c d (record { state = s; areas = 
 
 module _ (c : Call) (d : List ℕ) (s : State) (r : Answered) (l : Areas) where
   pub apply-load : (x : LoadAreas) → c .op ≡ 0x0c
-      → outcome r x ≡ carry areasLoad (loadPlan f3dex2 256 s (loadTables (s .counts) (joined.loadPart l)) (c .args .a) (c .args .b) d 0) s (joined.loadPart l) → ApplyAre c d s l r (joined.withLoad l x)
+      → outcome r x ≡ loadMeans s (c .args .a) (c .args .b) d 0 (joined.loadPart l) → ApplyAre c d s l r (joined.withLoad l x)
   unfolding applyBy pick
   apply-load x e h = joined.joined-load familyOf limit (record { state = s; areas = l }) (c .args .a) (c .args .b) d 0 r x h ∙ rw e
 
   pub apply-modify : (x : List Float × List Float × List ℕ) → c .op ≡ 0x0f
       → let y : List Float × List Float × List ℕ = (l .scales, l .floats, l .words) in
-      outcome r x ≡ carry areas37 (modifyPlan 256 s (table 4 (s .counts .scales) (y .0)) (rowTable (s .counts .rows) (y .1) (y .2)) (c .args .a) (c .args .b) (c .args .c)) s y
+      outcome r x ≡ modifyMeans s (c .args .a) (c .args .b) (c .args .c) y
       → ApplyAre c d s l r (joined.with37 l x)
   unfolding applyBy pick
   apply-modify x e h = joined.joined-modify familyOf limit (record { state = s; areas = l }) (c .args .a) (c .args .b) (c .args .c) r x h ∙ rw e
 
   pub apply-draw : (x : List ℕ × List ℕ) → c .op ≡ 0x10
-      → let y : List ℕ × List ℕ = (l .indices, l .runs) in
-      outcome r x
-      ≡ carry areas89
-      (drawPlan f3dex2 256 s (table 1 (s .counts .indices) (y .0)) (table 8 (s .counts .runs) (y .1)) (c .args .a) (c .args .b) (c .args .c) (c .args .d ∷ c .args .e ∷ c .args .f ∷ c .args .g ∷ [])) s y
+      → let y : List ℕ × List ℕ = (l .drawing .indices, l .drawing .runs) in
+      outcome r x ≡ drawMeans s (c .args .a) (c .args .b) (c .args .c) (c .args .d ∷ c .args .e ∷ c .args .f ∷ c .args .g ∷ []) y
       → ApplyAre c d s l r (joined.with89 l x)
   unfolding applyBy pick
   apply-draw x e h = joined.joined-draw familyOf limit (record { state = s; areas = l }) _ _ _ _ _ _ _ r x h ∙ rw e
 
   pub apply-ink : c .op ≡ 0x12
-      → outcome r tt ≡ carry nothing (inkPlan s (rowTable (s .counts .rows) (l .floats) (l .words)) (table 1 (s .counts .indices) (l .indices)) (c .args .a)) s tt → ApplyAre c d s l r l
+      → outcome r tt ≡ carry nothing (inkPlan s (rowTable (s .counts .rows) (l .floats) (l .words)) (tableIn indexArea (s .counts) (l .drawing .indices)) (c .args .a)) s tt → ApplyAre c d s l r l
   unfolding applyBy pick
   apply-ink e h = joined.joined-ink familyOf limit (record { state = s; areas = l }) (c .args .a) r h ∙ rw e
 

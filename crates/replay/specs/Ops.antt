@@ -104,8 +104,7 @@ areasOf m v s l k g f w i r =
       fogs = g;
       floats = f;
       words = w;
-      indices = i;
-      runs = r;
+      drawing = record { indices = i; runs = r };
     }
 
 -- as much of each area as is asked, or all of it
@@ -120,8 +119,8 @@ lesser n l =
       fogs = min (n .fogs) (length (l .fogs));
       floats = min (n .floats) (length (l .floats));
       words = min (n .words) (length (l .words));
-      indices = min (n .indices) (length (l .indices));
-      runs = min (n .runs) (length (l .runs));
+      indices = min (n .indices) (length (l .drawing .indices));
+      runs = min (n .runs) (length (l .drawing .runs));
     }
 
 -- so many of the first numbers of each area
@@ -136,8 +135,7 @@ firsts n l =
       fogs = take (n .fogs) (l .fogs);
       floats = take (n .floats) (l .floats);
       words = take (n .words) (l .words);
-      indices = take (n .indices) (l .indices);
-      runs = take (n .runs) (l .runs);
+      drawing = record { indices = take (n .indices) (l .drawing .indices); runs = take (n .runs) (l .drawing .runs) };
     }
 
 -- the areas l with x in front of what lies behind those
@@ -152,8 +150,7 @@ behind n l x =
       fogs = x .fogs ++ drop (n .fogs) (l .fogs);
       floats = x .floats ++ drop (n .floats) (l .floats);
       words = x .words ++ drop (n .words) (l .words);
-      indices = x .indices ++ drop (n .indices) (l .indices);
-      runs = x .runs ++ drop (n .runs) (l .runs);
+      drawing = record { indices = x .drawing .indices ++ drop (n .indices) (l .drawing .indices); runs = x .drawing .runs ++ drop (n .runs) (l .drawing .runs) };
     }
 
 -- an op over what is lent
@@ -167,7 +164,7 @@ lendBy c d n p =
 abbrev pub writtenBy : Call → Areas → Areas
 writtenBy c l =
     areasOf (l .matrices) (l .viewports) (l .scales) (l .lights) (l .lookats) (writtenTo 5 c (signed 16 (c .args .c % 65536)) (l .fogs)) (l .floats)
-    (writtenTo 7 c (c .args .c) (l .words)) (writtenTo 8 c (c .args .c) (l .indices)) (writtenTo 9 c (c .args .c) (l .runs))
+    (writtenTo 7 c (c .args .c) (l .words)) (writtenTo 8 c (c .args .c) (l .drawing .indices)) (writtenTo 9 c (c .args .c) (l .drawing .runs))
 
 -- EVERY OP: what it answers, and the state and areas that it leaves
 unfoldable pub stepBy : Call → List ℕ → Lengths → Port → Outcome Areas

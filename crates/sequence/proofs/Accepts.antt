@@ -20,7 +20,7 @@ use Rattle.change.specs.declared.Change.{Change}
 use Rattle.change.specs.declared.Asked.{Asked}
 use Rattle.change.specs.declared.Asked.the-variants.{Known, Unknown}
 use Rattle.change.specs.Decoded.{decoded}
-use Rattle.stage.specs.Modify.{moved}
+use Rattle.stage.specs.Modify.{moved, edits37, asking, scaleEdit, rowChange, changed, changePlan, modifyPlan, inkPlan}
 use Rattle.triangle.specs.Run.{settings, closed}
 use Rattle.triangle.specs.Slot.{bit, held, both, culls}
 use Rattle.vertex.specs.Vertices.{verticesAt}
@@ -31,7 +31,6 @@ use Rattle.stage.specs.With.{withCombined, withModel, withViewport, withDrawn}
 use Rattle.stage.specs.Matrices.{edits1, edits2, modelTop, combine, turned, matrixPlan, forcePlan, popPlan, viewportEntry, viewing, viewportPlan}
 use Rattle.stage.specs.Load.{LoadTables, settled, settledState, sharedBy, loadEdits, loadLent, loadPlan}
 use Rattle.stage.specs.Rows.{fillSlots}
-use Rattle.stage.specs.Modify.{edits37, asking, scaleEdit, rowChange, changed, changePlan, modifyPlan, inkPlan}
 use Rattle.stage.specs.Draw.{edits89, judgeCodes, slotsTo, codesOf, culled, cullPlan, near, depthPlan, judgeEver, placed, mark, triangle, runEdit, drawPlan}
 
 -- Q holds of what the plan does, if it is accepted

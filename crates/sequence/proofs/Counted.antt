@@ -25,6 +25,6 @@ counted-then k t e c =
       lookats = edit-counted (e .lookats) (k .lookats .used) _ (c .lookats);
       fogs = edit-counted (e .fogs) (k .fogs .used) _ (c .fogs);
       rows = edit-counted (e .rows) (k .rows .used) _ (c .rows);
-      indices = edit-counted (e .indices) (k .indices .used) _ (c .indices);
-      runs = edit-counted (e .runs) (k .runs .used) _ (c .runs);
+      indices = edit-counted (e .drawing .indices) (k .drawing .indices .used) _ (c .indices);
+      runs = edit-counted (e .drawing .runs) (k .drawing .runs .used) _ (c .runs);
     }

@@ -143,8 +143,8 @@ module _ (p : Port) (h : Fits p) (vs : List ℕ) (t : State) (e : Edits) (z : Al
         fogs = length-after fogWidth _ (e .fogs) _;
         floats = length-after floatWidth _ (only rowFloats (e .rows)) _;
         words = length-after wordWidth _ (only rowWords (e .rows)) _;
-        indices = length-after indexWidth _ (e .indices) _;
-        runs = length-after runWidth _ (e .runs) _;
+        indices = length-after indexWidth _ (e .drawing .indices) _;
+        runs = length-after runWidth _ (e .drawing .runs) _;
       }
 
   -- the areas then hold the book with the edits entered
@@ -163,8 +163,11 @@ module _ (p : Port) (h : Fits p) (vs : List ℕ) (t : State) (e : Edits) (z : Al
         lookats = table-after lookatWidth (c .lookats) (e .lookats) (l .lookats) (z .lookats) (h .lookats) i;
         fogs = table-after fogWidth (c .fogs) (e .fogs) (l .fogs) (z .fogs) (h .fogs) i;
         rows = rows-after (c .rows) (e .rows) (l .floats) (l .words) (z .floats) (z .words) (h .floats) (h .words) i;
-        indices = table-after indexWidth (c .indices) (e .indices) (l .indices) (z .indices) (h .indices) i;
-        runs = table-after runWidth (c .runs) (e .runs) (l .runs) (z .runs) (h .runs) i;
+        drawing =
+        record {
+          indices = table-after indexWidth (c .indices) (e .drawing .indices) (l .drawing .indices) (z .indices) (h .indices) i;
+          runs = table-after runWidth (c .runs) (e .drawing .runs) (l .drawing .runs) (z .runs) (h .runs) i;
+        };
       }
 
 -- areas are as long as themselves

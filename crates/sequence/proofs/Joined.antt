@@ -47,8 +47,7 @@ with37 l x =
       fogs = l .fogs;
       floats = x .1;
       words = x .2;
-      indices = l .indices;
-      runs = l .runs;
+      drawing = l .drawing;
     }
 
 -- those of tables 8 and 9
@@ -63,8 +62,7 @@ with89 l x =
       fogs = l .fogs;
       floats = l .floats;
       words = l .words;
-      indices = x .0;
-      runs = x .1;
+      drawing = record { indices = x .0; runs = x .1 };
     }
 
 -- the areas that a load is lent
@@ -83,8 +81,7 @@ withLoad l x =
       fogs = x .fogs;
       floats = x .floats;
       words = x .words;
-      indices = l .indices;
-      runs = l .runs;
+      drawing = l .drawing;
     }
 
 -- none replaced
@@ -181,7 +178,7 @@ module _ (F : ℕ → Family) (limit : State → ℕ) (p : Port) where
 
   -- draw: tables 8 and 9
   pub joined-draw : (a b c material mode colour prim : ℕ) (r : Answered) (x : List ℕ × List ℕ)
-      → let y : List ℕ × List ℕ = (p .areas .indices, p .areas .runs) in
+      → let y : List ℕ × List ℕ = (p .areas .drawing .indices, p .areas .drawing .runs) in
       outcome r x ≡ carry areas89 (drawPlan f slots (p .state) (table indexWidth (p .state .counts .indices) (y .0)) (table runWidth (p .state .counts .runs) (y .1)) a b c (material ∷ mode ∷ colour ∷ prim ∷ [])) (p .state) y
       → outcome r (with89 (p .areas) x) ≡ result (plan F limit) (draw a b c material mode colour prim) p
   unfolding result plan book
@@ -248,7 +245,7 @@ module _ (F : ℕ → Family) (limit : State → ℕ) (p : Port) where
 
   -- ink count: what it reads of tables 7 and 8 stays
   pub joined-ink : (colour : ℕ) (r : Answered)
-      → outcome r tt ≡ carry nothing (inkPlan (p .state) (rowTable (p .state .counts .rows) (p .areas .floats) (p .areas .words)) (table indexWidth (p .state .counts .indices) (p .areas .indices)) colour) (p .state) tt
+      → outcome r tt ≡ carry nothing (inkPlan (p .state) (rowTable (p .state .counts .rows) (p .areas .floats) (p .areas .words)) (table indexWidth (p .state .counts .indices) (p .areas .drawing .indices)) colour) (p .state) tt
       → outcome r (p .areas) ≡ result (plan F limit) (ink colour) p
   unfolding result plan book
   joined-ink colour r e = quiet _ r (on-ink Quiet (p .state) _ _ colour (λ _. refl)) e

@@ -48,8 +48,7 @@ opened-book l =
       lookats = record { used = []; room = room lookatWidth (length (l .lookats)) };
       fogs = record { used = []; room = room fogWidth (length (l .fogs)) };
       rows = record { used = []; room = min (room floatWidth (length (l .floats))) (room wordWidth (length (l .words))) };
-      indices = record { used = []; room = room indexWidth (length (l .indices)) };
-      runs = record { used = []; room = room runWidth (length (l .runs)) };
+      drawing = record { indices = record { used = []; room = room indexWidth (length (l .drawing .indices)) }; runs = record { used = []; room = room runWidth (length (l .drawing .runs)) } };
     }
 
 -- areas of equal lengths open to the same book
@@ -65,8 +64,7 @@ opened-alike x y e =
       lookats = record { used = []; room = room lookatWidth (e .lookats i) };
       fogs = record { used = []; room = room fogWidth (e .fogs i) };
       rows = record { used = []; room = min (room floatWidth (e .floats i)) (room wordWidth (e .words i)) };
-      indices = record { used = []; room = room indexWidth (e .indices i) };
-      runs = record { used = []; room = room runWidth (e .runs i) };
+      drawing = record { indices = record { used = []; room = room indexWidth (e .indices i) }; runs = record { used = []; room = room runWidth (e .runs i) } };
     }
 
 -- the areas before they are opened

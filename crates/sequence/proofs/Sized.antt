@@ -20,18 +20,16 @@ use Rattle.layout.specs.declared.records.Vertex.{Vertex}
 use Rattle.fold.proofs.Believe.{length-lookat, length-scale, wide-lights}
 use Rattle.vertex.proofs.Believe.{floats-size, words-size}
 use Rattle.change.specs.Decoded.{unitEntry, appends}
-use Rattle.stage.specs.Modify.{moved}
+use Rattle.stage.specs.Modify.{moved, rowEdit, rowChange, scaleEdit, modifyPlan}
 use Rattle.change.proofs.Kept.{floats-kept, words-kept}
 use Rattle.triangle.specs.Run.{settings, runOf, longer, sameRun}
 use Rattle.triangle.specs.Slot.{culls}
 use Rattle.stage.specs.declared.State.{State}
 use Rattle.stage.specs.declared.Counts.{Counts}
 use Rattle.stage.specs.declared.load.Settled.{Settled}
-use Rattle.stage.specs.Plan.{table, rowTable, Edit, keep, grow, patch, Row, rowFloats, rowWords, only, Edits, pick, more, untouched}
+use Rattle.stage.specs.Plan.{table, rowTable, Edit, keep, grow, patch, Row, rowFloats, rowWords, only, Edits, pick, more, untouched, onlyIf}
 use Rattle.stage.specs.Matrices.{edits1, edits2, combine, viewportEntry}
 use Rattle.stage.specs.Load.{fogPair, settled, sharedBy, vertexRow, loadEdits, loadLent, loadPlan}
-use Rattle.stage.specs.Plan.{onlyIf}
-use Rattle.stage.specs.Modify.{rowEdit, rowChange, scaleEdit, modifyPlan}
 use Rattle.stage.specs.Draw.{triangle, runEdit, drawPlan}
 use Rattle.stage.proofs.RowEntries.{length-rows, row-at}
 use Rattle.sequence.specs.Sequence.{Command, matrix, force, pop, viewport, geometry, texture, fog, number, light, lookat, microcode, load, cull, depth, modify, draw, ink, Areas, Port, book, loadOf, plan}
@@ -113,7 +111,7 @@ wide-matrix n false true m l h = (h, tt)
 wide-matrix n false false m l h = tt
 
 -- where the last of some runs has the settings asked there is one
-run-some : (us : List (List ℕ)) (q : List ℕ) → length q ≡ settingsWide → sameRun us q ≡ true → 0 < length us
+run-some : (us : List (List ℕ)) (q : List ℕ) → length q ≡ settingsWide → sameRun 0 us q ≡ true → 0 < length us
 unfolding sameRun
 run-some [] q h e = absurd (false≢true (sym (matches-length eqb [] q (λ z. omega arith)) ∙ e))
 run-some (u ∷ us) q h e = omega arith
@@ -121,9 +119,9 @@ run-some (u ∷ us) q h e = omega arith
 -- the last run grown, or a run appended, has the numbers of a run
 wide-run : (us : List (List ℕ)) (n : ℕ) (q : List ℕ) → length q ≡ settingsWide → Wide runWidth us → EditOk runWidth (length us) (runEdit us n q)
 unfolding runEdit pick
-wide-run us n q h k = go (sameRun us q) refl
+wide-run us n q h k = go (sameRun 0 us q) refl
   where
-    go : (b : Bool) → sameRun us q ≡ b → EditOk runWidth (length us) (pick b (patch (length us - 1) (longer (final us))) (grow (runOf q n 3 ∷ [])))
+    go : (b : Bool) → sameRun 0 us q ≡ b → EditOk runWidth (length us) (pick b (patch (length us - 1) (longer 0 (final us))) (grow (runOf q n 3 ∷ [])))
     go true e =
         let s = run-some us q h e in
         (rw length-set (wide-at runWidth us (length us - 1) k (omega arith)), omega arith)
@@ -141,8 +139,8 @@ pub record Fits (p : Port) : Type 0 where
   pub fogs : p .state .counts .fogs * fogWidth ≤ length (p .areas .fogs)
   pub floats : p .state .counts .rows * floatWidth ≤ length (p .areas .floats)
   pub words : p .state .counts .rows * wordWidth ≤ length (p .areas .words)
-  pub indices : p .state .counts .indices * indexWidth ≤ length (p .areas .indices)
-  pub runs : p .state .counts .runs * runWidth ≤ length (p .areas .runs)
+  pub indices : p .state .counts .indices * indexWidth ≤ length (p .areas .drawing .indices)
+  pub runs : p .state .counts .runs * runWidth ≤ length (p .areas .drawing .runs)
 
 -- every edit of a command is sized, for the counts c and the areas l
 pub record AllSized (c : Counts) (e : Edits) (l : Areas) : Type 0 where
@@ -154,8 +152,8 @@ pub record AllSized (c : Counts) (e : Edits) (l : Areas) : Type 0 where
   pub fogs : Sized fogWidth (c .fogs) (e .fogs) (l .fogs)
   pub floats : Sized floatWidth (c .rows) (only rowFloats (e .rows)) (l .floats)
   pub words : Sized wordWidth (c .rows) (only rowWords (e .rows)) (l .words)
-  pub indices : Sized indexWidth (c .indices) (e .indices) (l .indices)
-  pub runs : Sized runWidth (c .runs) (e .runs) (l .runs)
+  pub indices : Sized indexWidth (c .indices) (e .drawing .indices) (l .drawing .indices)
+  pub runs : Sized runWidth (c .runs) (e .drawing .runs) (l .drawing .runs)
 
 -- an accepted plan's edits are sized for the port
 abbrev pub Sizes : Port → List ℕ → State → Edits → Type 0
@@ -304,13 +302,13 @@ module _ (p : Port) (h : Fits p) where
 
   -- a draw
   sized-draw : (f : Family) (slots a b c : ℕ) (asked : List ℕ) → length asked ≡ 4
-      → Accepted (Sizes p) (drawPlan f slots (p .state) (table indexWidth (p .state .counts .indices) (p .areas .indices)) (table runWidth (p .state .counts .runs) (p .areas .runs)) a b c asked)
+      → Accepted (Sizes p) (drawPlan f slots (p .state) (table indexWidth (p .state .counts .indices) (p .areas .drawing .indices)) (table runWidth (p .state .counts .runs) (p .areas .drawing .runs)) a b c asked)
   sized-draw f slots a b c asked q =
       let s = p .state in
       let n = s .counts .indices in
       let m = s .counts .runs in
-      let x = p .areas .indices in
-      let y = p .areas .runs in
+      let x = p .areas .drawing .indices in
+      let y = p .areas .drawing .runs in
       let z = settings asked (culls f (s .geometry)) (s .microcode) in
       let e : length z ≡ settingsWide = rw (length-append, q) in
       let o : EditOk runWidth m (runEdit (entries runWidth m y) (length (entries indexWidth n x)) z) =

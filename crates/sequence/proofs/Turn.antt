@@ -30,8 +30,7 @@ enter t e k =
       lookats = edited (e .lookats) (k .lookats);
       fogs = edited (e .fogs) (k .fogs);
       rows = edited (e .rows) (k .rows);
-      indices = edited (e .indices) (k .indices);
-      runs = edited (e .runs) (k .runs);
+      drawing = record { indices = edited (e .drawing .indices) (k .drawing .indices); runs = edited (e .drawing .runs) (k .drawing .runs) };
     }
 
 -- a book after a plan

@@ -15,8 +15,8 @@ lengths k =
       lookats = length (k .lookats .used);
       fogs = length (k .fogs .used);
       rows = length (k .rows .used);
-      indices = length (k .indices .used);
-      runs = length (k .runs .used);
+      indices = length (k .drawing .indices .used);
+      runs = length (k .drawing .runs .used);
     }
 
 -- the counts c are the lengths n

@@ -7,13 +7,12 @@ use mathlib.Core.Path.{_≡_}
 use lib.ListN.{length}
 use lib.IntN.{ℤ}
 use lib.Ieee.{Float}
-use Rattle.areas.specs.Widths.{matrixWidth, viewportWidth, scaleWidth, lightWidth, lookatWidth, fogWidth, floatWidth, wordWidth, indexWidth, runWidth}
 use Rattle.decide.specs.declared.family.Family.{Family}
 use Rattle.decide.specs.Lights.{lightNumber}
 use Rattle.stage.specs.declared.State.{State}
 use Rattle.stage.specs.declared.Counts.{Counts}
 use Rattle.stage.specs.declared.settings.Microcode.{Microcode}
-use Rattle.stage.specs.Plan.{Table, table, rowTable, Row, rowFloats, rowWords, only, Edits, Plan, refuse, does, pick, after, Outcome, carry}
+use Rattle.stage.specs.Plan.{Table, rowTable, Row, Drawing, Edits, Plan, refuse, does, pick, Outcome, carry, matrixArea, viewportArea, scaleArea, lightArea, lookatArea, fogArea, floatArea, wordArea, indexArea, runArea, tableIn, afterIn}
 use Rattle.stage.specs.Opening.{blank, openingPlan, areas12}
 use Rattle.stage.specs.Matrices.{matrixPlan, forcePlan, popPlan, viewportPlan, geometryPlan}
 use Rattle.stage.specs.Lights.{texturePlan, fogPlan, numberPlan, lightPlan, lookatPlan, microcodePlan}
@@ -64,8 +63,7 @@ pub record Areas : Type 0 where
   pub fogs : List ℤ
   pub floats : List Float
   pub words : List ℕ
-  pub indices : List ℕ
-  pub runs : List ℕ
+  pub drawing : Drawing (List ℕ)
 
 -- a state, and the areas that are lent with it
 pub record Port : Type 0 where
@@ -82,8 +80,7 @@ pub record Book : Type 0 where
   pub lookats : Table (List Float)
   pub fogs : Table (List ℤ)
   pub rows : Table Row
-  pub indices : Table (List ℕ)
-  pub runs : Table (List ℕ)
+  pub drawing : Drawing (Table (List ℕ))
 
 -- the book of a port: its counts say how much of each area is in use
 unfoldable pub book : Port → Book
@@ -92,15 +89,14 @@ book p =
     let l = p .areas in
     record {
       state = p .state;
-      matrices = table matrixWidth (c .matrices) (l .matrices);
-      viewports = table viewportWidth (c .viewports) (l .viewports);
-      scales = table scaleWidth (c .scales) (l .scales);
-      lights = table lightWidth (c .lights) (l .lights);
-      lookats = table lookatWidth (c .lookats) (l .lookats);
-      fogs = table fogWidth (c .fogs) (l .fogs);
+      matrices = tableIn matrixArea c (l .matrices);
+      viewports = tableIn viewportArea c (l .viewports);
+      scales = tableIn scaleArea c (l .scales);
+      lights = tableIn lightArea c (l .lights);
+      lookats = tableIn lookatArea c (l .lookats);
+      fogs = tableIn fogArea c (l .fogs);
       rows = rowTable (c .rows) (l .floats) (l .words);
-      indices = table indexWidth (c .indices) (l .indices);
-      runs = table runWidth (c .runs) (l .runs);
+      drawing = record { indices = tableIn indexArea c (l .drawing .indices); runs = tableIn runArea c (l .drawing .runs) };
     }
 
 -- the tables of a load
@@ -125,23 +121,22 @@ plan F limit (cull first last) k = cullPlan (limit (k .state)) (k .state) first 
 plan F limit (depth slot threshold) k = depthPlan (limit (k .state)) (k .state) slot threshold
 plan F limit (modify slot attribute value) k = modifyPlan (limit (k .state)) (k .state) (k .scales) (k .rows) slot attribute value
 plan F limit (draw a b c material mode colour prim) k =
-    drawPlan (F (k .state .microcode)) (limit (k .state)) (k .state) (k .indices) (k .runs) a b c (material ∷ mode ∷ colour ∷ prim ∷ [])
-plan F limit (ink colour) k = inkPlan (k .state) (k .rows) (k .indices) colour
+    drawPlan (F (k .state .microcode)) (limit (k .state)) (k .state) (k .drawing .indices) (k .drawing .runs) a b c (material ∷ mode ∷ colour ∷ prim ∷ [])
+plan F limit (ink colour) k = inkPlan (k .state) (k .rows) (k .drawing .indices) colour
 
 -- all ten areas after a command's edits; a number that no edit names stays
 abbrev pub afterAll : Counts → Edits → Areas → Areas
 afterAll c e l =
     record {
-      matrices = after matrixWidth (c .matrices) (e .matrices) (l .matrices);
-      viewports = after viewportWidth (c .viewports) (e .viewports) (l .viewports);
-      scales = after scaleWidth (c .scales) (e .scales) (l .scales);
-      lights = after lightWidth (c .lights) (e .lights) (l .lights);
-      lookats = after lookatWidth (c .lookats) (e .lookats) (l .lookats);
-      fogs = after fogWidth (c .fogs) (e .fogs) (l .fogs);
-      floats = after floatWidth (c .rows) (only rowFloats (e .rows)) (l .floats);
-      words = after wordWidth (c .rows) (only rowWords (e .rows)) (l .words);
-      indices = after indexWidth (c .indices) (e .indices) (l .indices);
-      runs = after runWidth (c .runs) (e .runs) (l .runs);
+      matrices = afterIn matrixArea c e (l .matrices);
+      viewports = afterIn viewportArea c e (l .viewports);
+      scales = afterIn scaleArea c e (l .scales);
+      lights = afterIn lightArea c e (l .lights);
+      lookats = afterIn lookatArea c e (l .lookats);
+      fogs = afterIn fogArea c e (l .fogs);
+      floats = afterIn floatArea c e (l .floats);
+      words = afterIn wordArea c e (l .words);
+      drawing = record { indices = afterIn indexArea c e (l .drawing .indices); runs = afterIn runArea c e (l .drawing .runs) };
     }
 
 -- a machine says what each command does to a book; the stage is `plan F limit`
@@ -183,8 +178,7 @@ with12 l x =
       fogs = l .fogs;
       floats = l .floats;
       words = l .words;
-      indices = l .indices;
-      runs = l .runs;
+      drawing = l .drawing;
     }
 
 -- the port after opening, also where opening is refused: then the state is not opened
@@ -204,5 +198,5 @@ pub record Alike (x y : Areas) : Type 0 where
   pub fogs : length (x .fogs) ≡ length (y .fogs)
   pub floats : length (x .floats) ≡ length (y .floats)
   pub words : length (x .words) ≡ length (y .words)
-  pub indices : length (x .indices) ≡ length (y .indices)
-  pub runs : length (x .runs) ≡ length (y .runs)
+  pub indices : length (x .drawing .indices) ≡ length (y .drawing .indices)
+  pub runs : length (x .drawing .runs) ≡ length (y .drawing .runs)

@@ -44,7 +44,7 @@ returns : tie.Need-returns
 returns c =
     let r = c .before .before .before .before .before .before .before .before .before .before .before .before .before .before .before .before .before .before .before .before .before .before .before .before .before .before .before .before .before .before .before .lend in
     let w = c .before .before .before .before .before .before .before .write in
-    step-is _ _ _ (r .result) _ _ _ _ (r .ensures) (λ i. record { matrices = r .last .1 .1 .1 .1 .0; viewports = r .last .1 .1 .1 .1 .1 .0; scales = r .last .1 .1 .1 .1 .1 .1 .0; lights = r .last .1 .1 .1 .1 .1 .1 .1 .0; lookats = r .last .1 .1 .1 .1 .1 .1 .1 .1 .0; fogs = w .ensures .0 i; floats = r .last .1 .1 .1 .1 .1 .1 .1 .1 .1 .1 .0; words = w .ensures .1 .0 i; indices = w .ensures .1 .1 .0 i; runs = w .ensures .1 .1 .1 i })
+    step-is _ _ _ (r .result) _ _ _ _ (r .ensures) (λ i. record { matrices = r .last .1 .1 .1 .1 .0; viewports = r .last .1 .1 .1 .1 .1 .0; scales = r .last .1 .1 .1 .1 .1 .1 .0; lights = r .last .1 .1 .1 .1 .1 .1 .1 .0; lookats = r .last .1 .1 .1 .1 .1 .1 .1 .1 .0; fogs = w .ensures .0 i; floats = r .last .1 .1 .1 .1 .1 .1 .1 .1 .1 .1 .0; words = w .ensures .1 .0 i; drawing = record { indices = w .ensures .1 .1 .0 i; runs = w .ensures .1 .1 .1 i } })
 
 pub step-spec : {M : Type 1} → statement M
 step-spec =
