@@ -38,6 +38,7 @@ use mathlib.Core.List.{List, [], _∷_}
 use mathlib.Core.Option.{none, some}
 use lib.IntN.{pos, negsuc}
 use lib.Ieee.{toBits, ofInt, round, add, mul, div, neg, lt, le, eq}
+use Rattle.numbers.specs.Choice.{pick}
 use Rattle.numbers.specs.Sqrt.{sqrt}
 use Rattle.areas.specs.Area.{eqbℤ}
 use Rattle.stage.specs.declared.settings.Microcode.the-variants.{F3dex2, F3dex2NoN}

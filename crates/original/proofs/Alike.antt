@@ -12,12 +12,13 @@ use lib.Bits.{bitAnd, bitXor, and-high, xor-shr, xor-mod, or-shifted-r}
 use lib.Pow.{pow-pos, pow-add, shr-shr}
 use lib.Dec.{eqb, ltb}
 use lib.IntN.{ℤ, pos}
-use lib.Ieee.{Float, nan, neg, lt, eq, ne}
+use lib.Ieee.{Float, nan, binary32, div, neg, lt, eq, ne}
 use lib.Ieee.Scale.{finite}
 use borrow.Author.Tests.{ltb-true, ltb-false, eqb-true, eqb-false, eq-eqb, ne-eqb}
 use Rattle.areas.specs.Area.{matches, Wide}
 use Rattle.areas.specs.Widths.{fogWidth}
-use Rattle.matrix.specs.Math.{times, rowTimes, colTimes, laid}
+use Rattle.numbers.specs.Length.{lengthOf}
+use Rattle.matrix.specs.Math.{prod, times, rowTimes, colTimes, laid}
 use Rattle.matrix.specs.Clip.{bitOf, bitsOf, allFinite, codeOf, screenOf, depthOf}
 use Rattle.matrix.specs.declared.clip.ClipCode.{ClipCode}
 use Rattle.matrix.specs.declared.clip.ScreenZ.{ScreenZ}
@@ -29,9 +30,11 @@ use Rattle.fold.specs.Fog.{find}
 use Rattle.fold.specs.Lights.{lightEntry, directional}
 use Rattle.fold.specs.Lookat.{lookatEntry}
 use Rattle.stage.proofs.Judged.{and-assoc, and-true}
-use Rattle.original.specs.Math.{f0, ix, mul4, mul-row-vec4, mul-col-vec3}
+use Rattle.original.specs.Math.{f0, f1, ix, mul4, mul-row-vec4, mul-col-vec3}
 use Rattle.original.specs.Rsp.{has, g-mtx-push, g-mtx-load, g-mtx-projection, g-lighting, g-texture-gen, g-texture-gen-linear, g-fog-geom, g-cull-front, g-cull-both, eq-mat, eq-entry, last-is, popped-size}
 use Rattle.original.specs.Drawing.{eq2, unit-length, fold-lights, texgen-of, position, plane, clip-code, screen-of}
+use Rattle.original.proofs.Choices.{chosen}
+use Rattle.numbers.specs.Choice.{pick}
 
 -- ---- flags
 
@@ -137,7 +140,9 @@ pub texgen-same : (g : ℕ) → texgen-of (has g g-lighting) g ≡ texgenMode f3
 unfolding texgen-of texgenMode
 texgen-same g =
     ap₂ (λ (a b : Bool). cond (a && b) (cond (has g g-texture-gen-linear) 2 1) 0) (has-lighting g) (has-texgen g)
-    ∙ ap (λ (c : Bool). cond (lit f3dex2 g && flag (f3dex2 .texgen) g) (cond c 2 1) 0) (has-linear g)
+    ∙ ap (λ (c : Bool). cond {A = ℕ} (lit f3dex2 g && flag (f3dex2 .texgen) g) (cond c 2 1) 0) (has-linear g)
+    ∙ chosen {A = ℕ} (lit f3dex2 g && flag (f3dex2 .texgen) g) (cond (flag (f3dex2 .linear) g) 2 1) 0
+    ∙ ap (λ (n : ℕ). pick (lit f3dex2 g && flag (f3dex2 .texgen) g) n 0) (chosen (flag (f3dex2 .linear) g) 2 1)
 
 -- the lighting bit changes
 pub relit-same : (old new : ℕ) → has (bitXor old new) g-lighting ≡ relit f3dex2 old new
@@ -163,7 +168,10 @@ row-same v m = refl
 -- a direction folded
 pub folded-same : (m : List (List Float)) (v : List Float) → unit-length (mul-col-vec3 m v) ≡ folded m v
 unfolding unit-length mul-col-vec3 folded colTimes
-folded-same m v = refl
+folded-same m v =
+    let o = mul-col-vec3 m v in
+    let l = lengthOf (ix o 0) (ix o 1) (ix o 2) in
+    ap (λ (i : Float). prod (ix o 0) i ∷ prod (ix o 1) i ∷ prod (ix o 2) i ∷ []) (chosen (lt f0 l) (div binary32 f1 l) f0)
 
 -- ---- comparisons
 
@@ -203,6 +211,7 @@ pair-same a b ha hb = rw (two-is a nan ha, two-is b nan hb) (simp and-true)
 
 -- a plane's bit above a code is added
 pub plane-adds : (b : Bool) (k code : ℕ) → code < 2 ^ k → plane b k code ≡ code + bitOf b (2 ^ k)
+unfolding pick
 plane-adds true k code h = or-shifted-r 1 k code h ∙ rw (one-mul (2 ^ k)) (omega arith)
 plane-adds false k code h = or-shifted-r 0 k code h ∙ rw (zero-mul (2 ^ k)) (omega arith)
 
@@ -212,6 +221,7 @@ next-plane b k code sum e h = ap (λ (n : ℕ). plane b k n) e ∙ plane-adds b 
 
 -- a bit is at most its weight
 pub bit-le : (b : Bool) (n : ℕ) → bitOf b n ≤ n
+unfolding pick
 bit-le true n = omega arith
 bit-le false n = omega arith
 
@@ -233,11 +243,11 @@ planes-sum a b c d e f =
 
 -- the port's code: a mark and a value
 pub coded : (t : Bool) (n : ℕ) → ClipCode
-coded t n = cond t (record { some = true; bits = n }) (record { some = false; bits = 0 })
+coded t n = pick t (record { some = true; bits = n }) (record { some = false; bits = 0 })
 
 -- it says what the Option says
 pub coded-is : (t : Bool) (n : ℕ) → cond {A = Option ℕ} t (some n) none ≡ cond (coded t n .some) (some (coded t n .bits)) none
-unfolding coded
+unfolding coded pick
 coded-is true n = refl
 coded-is false n = refl
 
@@ -255,12 +265,12 @@ code-same p =
 
 -- the port's screen z: a mark and a value
 pub depth : (t : Bool) (z : Float) → ScreenZ
-depth t z = cond t (record { some = true; z = z }) (record { some = false; z = f0 })
+depth t z = pick t (record { some = true; z = z }) (record { some = false; z = f0 })
 
 -- it says what the original's two tests in turn say
 pub depth-is : (e f : Bool) (z : Float) → cond {A = Option Float} e none (cond f (some z) none)
     ≡ cond (depth (true && not e && f) z .some) (some (depth (true && not e && f) z .z)) none
-unfolding depth
+unfolding depth pick
 depth-is true f z = refl
 depth-is false true z = refl
 depth-is false false z = refl
@@ -269,7 +279,7 @@ depth-is false false z = refl
 pub screen-by : (t : Bool) (n : ℕ) (p scale trans : List Float)
     → screen-of (cond t (some n) none) p scale trans
     ≡ cond (depthOf p t (ix scale 2) (ix trans 2) .some) (some (depthOf p t (ix scale 2) (ix trans 2) .z)) none
-unfolding screen-of depthOf screenOf ne depth
+unfolding screen-of depthOf screenOf ne depth pick
 screen-by true n p scale trans = depth-is (eq (ix p 3) f0) (finite (screenOf p (ix scale 2) (ix trans 2))) (screenOf p (ix scale 2) (ix trans 2))
 screen-by false n p scale trans = refl
 
@@ -298,7 +308,7 @@ popped-same (suc count) size h = go (popped-same count) (ltb 1 size) refl
 pub position-same : (es : List (List ℤ)) (m o : ℤ) → Wide fogWidth es → position es m o ≡ find es (m ∷ o ∷ [])
 unfolding position find matches
 position-same [] m o h = refl
-position-same (e ∷ es) m o h = rw (two-is e (pos 0) (h .0), and-true, position-same es m o (h .1), add-one)
+position-same (e ∷ es) m o h = rw (two-is e (pos 0) (h .0), and-true, position-same es m o (h .1), add-one) (chosen _ _ _)
 
 -- ---- the last of a list
 

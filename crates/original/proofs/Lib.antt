@@ -1,3 +1,4 @@
+pub mod Choices
 pub mod Readers
 pub mod Alike
 pub mod Small

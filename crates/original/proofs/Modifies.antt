@@ -42,6 +42,7 @@ use Rattle.original.proofs.Views.{meets-more, next-number, fours-snoc, 
 use Rattle.original.proofs.Draws.{map-set}
 use Rattle.original.proofs.RowsOf.{set-made, row-pushed, row-set, row-read, rows-count}
 use Rattle.original.proofs.Nears.{held-near}
+use Rattle.original.proofs.Choices.{chosen}
 
 -- ---- what a change does on the original's side
 
@@ -119,7 +120,7 @@ record Kind (c : Change) : Type 0 where
   idle : (u v : ℕ) → (needs c ≡ true → u ≡ v) → (m : Made) → altered c u m ≡ altered c v m
 
 kind : (c : Change) → Kind c
-unfolding made-of floatsAfter wordsAfter depthAfter appends
+unfolding made-of floatsAfter wordsAfter depthAfter appends pick
 kind (Colour w) =
     record { row = λ o u r h. simp (getD-set, length-set, h .words); since = λ o u r p h. whole (Colour w) o u r h (simp getD-set (h .viewport)) (simp getD-set (h .scale)); depth = λ _ _. refl; new = λ _. refl; idle = λ _ _ _ _. refl }
 kind (Texture x y) =
@@ -127,17 +128,17 @@ kind (Texture x y) =
 kind (Screen x y) =
     record { row = λ o u r h. simp (getD-set, length-set, h .floats, h .words); since = λ o u r p h. whole (Screen x y) o u r h (simp getD-set (h .viewport)) (simp getD-set (h .scale)); depth = λ _ _. refl; new = λ _. refl; idle = λ _ _ _ _. refl }
 kind (Depth z own) =
-    record { row = λ o u r h. simp (getD-set, h .floats, h .words); since = λ o u r p h. whole (Depth z own) o u r h (simp getD-set (h .viewport)) (simp getD-set (h .scale)); depth = λ _ _. refl; new = λ _. refl; idle = λ _ _ _ _. refl }
+    record { row = λ o u r h. simp (getD-set, h .floats, h .words); since = λ o u r p h. whole (Depth z own) o u r h (simp getD-set (h .viewport)) (simp getD-set (h .scale)); depth = λ deep old. sym (chosen deep own old); new = λ _. refl; idle = λ _ _ _ _. refl }
 
 -- ---- what is asked for
 
 -- the change, by four tests of the attribute
 abbrev asks : Bool → Bool → Bool → Bool → ℕ → Asked
 asks a b c d value =
-    cond a (Known (Colour (reversed value)))
-    (cond b (Known (Texture (highBy 32 value) (lowBy 32 value)))
-    (cond c (Known (Screen (highBy 4 value) (lowBy 4 value)))
-    (cond d (Known (Depth (ofRatio binary32 (pos value) 67108864) (ofRatio binary64 (pos value) 65536)))
+    pick a (Known (Colour (reversed value)))
+    (pick b (Known (Texture (highBy 32 value) (lowBy 32 value)))
+    (pick c (Known (Screen (highBy 4 value) (lowBy 4 value)))
+    (pick d (Known (Depth (ofRatio binary32 (pos value) 67108864) (ofRatio binary64 (pos value) 65536)))
     Unknown)))
 
 -- an attribute is known where a change is asked for
@@ -146,7 +147,7 @@ isKnown Unknown = false
 isKnown (Known c) = true
 
 pub known-is : (attr value : ℕ) → known attr ≡ isKnown (decoded attr value)
-unfolding decoded
+unfolding decoded pick
 known-is attr value = go (eqb attr 0x10) (eqb attr 0x14) (eqb attr 0x18) (eqb attr 0x1C)
   where
     go : (a b c d : Bool) → a || (b || (c || d)) ≡ isKnown (asks a b c d value)
@@ -167,7 +168,7 @@ module _ (slot gi attr value : ℕ) (h : value < 4294967296) (w : Rsp × Scene) 
   Made-so c = change-at slot gi attr value w ≡ changed-by c slot gi w
 
   changes : OnChange Made-so (decoded attr value)
-  unfolding decoded change-at modify-colour modify-texture modify-screen-at made-at
+  unfolding decoded change-at modify-colour modify-texture modify-screen-at made-at pick
   changes = go (eqb attr 0x10) (eqb attr 0x14) (eqb attr 0x18) (eqb attr 0x1C) refl refl refl refl
     where
       go : (a b c d : Bool) → eqb attr 0x10 ≡ a → eqb attr 0x14 ≡ b → eqb attr 0x18 ≡ c → eqb attr 0x1C ≡ d → OnChange Made-so (asks a b c d value)
@@ -243,9 +244,9 @@ module _ {a b u : ℕ} {t : List (List Float)} {x : Texcoords} (S : ScaleSame a 
 
   -- where a change needs the unit entry it is there, and came at the point or since; else all stays
   record UnitThen (need : Bool) (o : Option ℕ) (y : Texcoords) : Type 0 where
-    same : ScaleSame a b (cond (need && eqb u 0) (n + 1) u) (edit (pick (need && eqb u 0) (grow (unitEntry ∷ [])) keep) t) y
-    number : need ≡ true → over a b (cond (need && eqb u 0) (n + 1) u - 1) ≡ unit-index o x
-    since : need ≡ true → a ≤ cond (need && eqb u 0) (n + 1) u - 1
+    same : ScaleSame a b (pick (need && eqb u 0) (n + 1) u) (edit (pick (need && eqb u 0) (grow (unitEntry ∷ [])) keep) t) y
+    number : need ≡ true → over a b (pick (need && eqb u 0) (n + 1) u - 1) ≡ unit-index o x
+    since : need ≡ true → a ≤ pick (need && eqb u 0) (n + 1) u - 1
 
   unit-by : (need : Bool) → UnitThen need (x .modify-unit-texcoord-index) (texcoords-by need x)
   unfolding unit-then unit-index pick
@@ -313,9 +314,9 @@ module _ {D : Bool → Bool → Type 0} {G : ℕ → ℕ → Type 0} {P : List F
   units = unit-by (N .held .scales) (k .state .counts .scales) (N .count .scales) (needs c)
 
   -- its place, as the judge has it
-  place : m .unit ≡ cond (needs c && eqb (k .state .unit) 0) (k .state .counts .scales + 1) (k .state .unit)
+  place : m .unit ≡ pick (needs c && eqb (k .state .unit) 0) (k .state .counts .scales + 1) (k .state .unit)
   unfolding moved
-  place = ap (λ (b : Bool). cond b (k .state .counts .scales + 1) (k .state .unit)) (kind c .new (k .state .unit))
+  place = ap (λ (b : Bool). pick b (k .state .counts .scales + 1) (k .state .unit)) (kind c .new (k .state .unit))
 
   scales-then : ScaleSame (o .port3) (o .rust3) (m .unit) (edit (scaleEdit c (k .state)) (k .scales .used)) (texcoords-by (needs c) (w .rsp .texcoords))
   scales-then = rw (place, kind c .new (k .state .unit)) (units .same)
@@ -342,9 +343,9 @@ module _ {D : Bool → Bool → Type 0} {G : ℕ → ℕ → Type 0} {P : List F
   rows-then false = rows-in-place (N .held .rows) c (m .unit) v (rw place (units .number)) (rw place (units .since)) i i-below
 
   slots-then : (b : Bool) → getD (k .state .drawn) slot false ≡ b
-      → SlotsSame (set (k .state .row) slot (cond b (k .state .counts .rows) i)) (k .state .loaded) (set (k .state .drawn) slot false) (k .state .coded) (k .state .code) (k .state .deep) (set (k .state .z) slot (depthAfter c (getD (k .state .deep) slot false) (getD (k .state .z) slot nan)))
+      → SlotsSame (set (k .state .row) slot (pick b (k .state .counts .rows) i)) (k .state .loaded) (set (k .state .drawn) slot false) (k .state .coded) (k .state .code) (k .state .deep) (set (k .state .z) slot (depthAfter c (getD (k .state .deep) slot false) (getD (k .state .z) slot nan)))
       (cond b (slots-by c slot (copied-slots slot n (w .rsp .slots))) (slots-by c slot (w .rsp .slots)))
-  unfolding copied-slots
+  unfolding copied-slots pick
   slots-then true d = slots-changed (N .held .slots) slot c (rw (rows-count (N .held .rows), N .count .rows, N .held .slots .row)) (ap (λ (l : List Bool). set l slot false) (N .held .slots .drawn))
   slots-then false d = slots-changed (N .held .slots) slot c (set-getD (k .state .row) slot 0 ∙ N .held .slots .row) (ap (set (k .state .drawn) slot) (sym d) ∙ set-getD (k .state .drawn) slot false ∙ N .held .slots .drawn)
 

@@ -10,7 +10,7 @@ use lib.IntN.{ℤ, pos, negsuc}
 use lib.Dec.{T, ltb, ltb→lt, nltb→le, lit≤, lit<}
 use lib.Pow.{pow-add, pow-pos, pow-mono, shl-lt}
 use lib.Signed.{mag, natAbs-le}
-use lib.Ieee.{Float, nan, inf, fin, Format, binary32, binary64, up, down, round, div, ofInt}
+use lib.Ieee.{Float, nan, inf, fin, Format, binary32, binary64, up, down, round, div, ofInt, minus}
 use lib.Ieee.Fits.{down-pos}
 use lib.Ieee.Exact.{HasValue, round-exact}
 use lib.Ieee.Scale.{round-same}
@@ -26,6 +26,7 @@ use Rattle.change.specs.Decoded.{reversed, highBy, lowBy}
 use Rattle.original.specs.Memory.{read-u8, read-u16, read-i16, as-i16, as-i8, cell, cells, read-matrix, read-vertex}
 use Rattle.original.specs.Rsp.{vp3, unorm, snorm, col3, dir3}
 use Rattle.original.specs.Drawing.{from-le, as-f32, tc-scale, tg-scale, high-half, low-half, over32, over4, swap-bytes}
+use Rattle.original.proofs.Choices.{chosen}
 
 -- each byte is below 256
 abbrev pub Bytes : List ℕ → Type 0
@@ -61,13 +62,20 @@ unfolding ofInt ofRatio
 int-same f (pos n) = refl
 int-same f (negsuc n) = refl
 
+-- sixteen bits, and eight, read with their sign
+pub i16-same : (n : ℕ) → as-i16 n ≡ signed 16 n
+i16-same n = chosen (ltb n 32768) (pos n) (minus n 65536)
+
+pub i8-same : (n : ℕ) → as-i8 n ≡ signed 8 n
+i8-same n = chosen (ltb n 128) (pos n) (minus n 256)
+
 -- sixteen bits divided by a power of two are rounded once
 pub over-same : (n t : ℕ) → n < 65536 → t ≤ 126 → div binary32 (ofInt binary32 (as-i16 n)) (fin false 1 (pos t)) ≡ ofRatio binary32 (signed 16 n) (2 ^ t)
-over-same n t h k = div-shift (ofInt binary32 (signed 16 n)) (signed 16 n) t refl (lt-of-le-of-lt (natAbs-le (signed 16 n) (signed-below 16 n refl h)) (lit< tt)) k
+over-same n t h k = ap (λ (z : ℤ). div binary32 (ofInt binary32 z) (fin false 1 (pos t))) (i16-same n) ∙ div-shift (ofInt binary32 (signed 16 n)) (signed 16 n) t refl (lt-of-le-of-lt (natAbs-le (signed 16 n) (signed-below 16 n refl h)) (lit< tt)) k
 
 -- a half inside, read with its sign
 pub signed-same : (b : List ℕ) (i : ℕ) → Bytes b → length b ≤ 16777216 → i + 2 ≤ length b → read-i16 b i ≡ signedAt b i
-signed-same b i hb hl h = ap as-i16 (half-same b i hb hl h)
+signed-same b i hb hl h = ap as-i16 (half-same b i hb hl h) ∙ i16-same (halfAt b i)
 
 -- and divided by a power of two
 pub ratio-same : (b : List ℕ) (i t : ℕ) → Bytes b → length b ≤ 16777216 → i + 2 ≤ length b → t ≤ 126
@@ -83,7 +91,8 @@ entry-same n x h k =
     let c : Fits w16 x = record { fits = k } in
     let s = sum-fits (signed 16 n) x a c in
     let fits : SFits w32 (parts (signed 16 n) x) = subst (λ (z : ℤ). SFits w32 z) (sym (toZ-ofZ w32 _ s) ∙ sum-read (signed 16 n) x a c) s in
-    div-shift (ofInt binary32 (parts (signed 16 n) x)) (parts (signed 16 n) x) 16 refl (lt-of-le-of-lt (natAbs-le (parts (signed 16 n) x) (fits .sfits)) (lit< tt)) (lit≤ tt)
+    ap (λ (z : ℤ). div binary32 (ofInt binary32 (parts z x)) (fin false 1 (pos 16))) (i16-same n)
+    ∙ div-shift (ofInt binary32 (parts (signed 16 n) x)) (parts (signed 16 n) x) 16 refl (lt-of-le-of-lt (natAbs-le (parts (signed 16 n) x) (fits .sfits)) (lit< tt)) (lit≤ tt)
 
 -- cell k, at either form of its place
 pub cell-same : (b : List ℕ) (at k : ℕ) → Bytes b → length b ≤ 16777216 → at + 64 ≤ length b → k < 16 → cell b at k ≡ entryAt b at k
@@ -150,6 +159,7 @@ colour-same b at hb hl h =
 pub snorm-same : (b : List ℕ) (i : ℕ) → Bytes b → length b ≤ 16777216 → i < length b → snorm b i ≡ axisAt b i
 snorm-same b i hb hl h =
     ap (λ (n : ℕ). div binary32 (ofInt binary32 (as-i8 n)) (fin false 127 (pos 0))) (byte-same b i hb hl h)
+    ∙ ap (λ (z : ℤ). div binary32 (ofInt binary32 z) (fin false 127 (pos 0))) (i8-same (byteAt b i))
     ∙ div-small binary32 (signed 8 (byteAt b i)) 126 (pos 0) 127 (le-trans (natAbs-le (signed 8 (byteAt b i)) (signed-below 8 (byteAt b i) refl (hb i))) (lit≤ tt)) (lit< tt) refl
 
 -- a light's direction inside, which lies 8 bytes on, is the same

@@ -23,6 +23,7 @@ use Rattle.matrix.specs.Math.{at}
 use Rattle.decide.specs.Lights.{slotted}
 use Rattle.fold.specs.Direction.{three}
 use Rattle.original.specs.Math.{f1}
+use Rattle.numbers.specs.Choice.{pick}
 
 -- ---- a texture scale is below 1
 
@@ -92,10 +93,10 @@ three-other l v k j w n =
 
 -- a slot replaced leaves the length
 pub slotted-length : (n k : ℕ) (l v : List Float) → length (slotted n l k v) ≡ length l
-unfolding slotted
+unfolding slotted pick
 slotted-length n k l v = go (ltb k n)
   where
-    go : (b : Bool) → length (cond b (put l (3 * k) v) l) ≡ length l
+    go : (b : Bool) → length (pick b (put l (3 * k) v) l) ≡ length l
     go true = length-put l (3 * k) v
     go false = refl
 
@@ -103,7 +104,7 @@ slotted-length n k l v = go (ltb k n)
 pub slotted-slots : {E : Type 0} (g : E → List Float) (n : ℕ) (l v : List Float) (es : List E) (e d : E) (k : ℕ) → length v ≡ 3 → g e ≡ v → length l ≡ 3 * n → length es ≡ n
     → ((j : ℕ) → j < n → g (getD es j d) ≡ three l (3 * j))
     → (j : ℕ) → j < n → g (getD (cond (ltb k n) (set es k e) es) j d) ≡ three (slotted n l k v) (3 * j)
-unfolding slotted
+unfolding slotted pick
 slotted-slots {E} g n l v es e d k w q L M s j h = go (ltb k n) refl
   where
     inside : k < n → g (getD (set es k e) j d) ≡ three (put l (3 * k) v) (3 * j)
@@ -113,6 +114,6 @@ slotted-slots {E} g n l v es e d k w q L M s j h = go (ltb k n) refl
         at-slot (yes t) = rw (t, getD-set-same es k e d (omega (arith, M)), q) (sym (three-same l v k w (omega (arith, L))))
         at-slot (no t) = ap g (getD-set-other es k j e d t) ∙ s j h ∙ sym (three-other l v k j w t)
 
-    go : (b : Bool) → ltb k n ≡ b → g (getD (cond b (set es k e) es) j d) ≡ three (cond b (put l (3 * k) v) l) (3 * j)
+    go : (b : Bool) → ltb k n ≡ b → g (getD (cond b (set es k e) es) j d) ≡ three (pick b (put l (3 * k) v) l) (3 * j)
     go true t = inside (ltb-true k n t)
     go false t = s j h

@@ -24,6 +24,7 @@ use Rattle.original.specs.Math.{Mat4, mul4}
 use Rattle.original.specs.Rsp.{Matrices, eq-mat, last-is, mv-top, recompute-mvp, with-stack, with-viewproj, push-model, write-top}
 use Rattle.original.specs.Relation.{MatrixSame}
 use Rattle.original.proofs.Alike.{mul4-same, mat-same, last-final}
+use Rattle.numbers.specs.Choice.{pick}
 
 -- ---- matrices of sixteen numbers
 
@@ -178,7 +179,7 @@ module _ {d : ℕ} {st p c : List Float} {t : List (List Float)} {m : Matrices} 
 
   -- what is made of the data
   pub made-same : (load : Bool) (x old : Mat4) (o : List (List Float)) → o ≡ rows (laid old) 0 → laid (made load x o) ≡ laid (cond load x (mul4 x old))
-  unfolding made
+  unfolding made pick
   made-same true x old o e = refl
   made-same false x old o e = ap laid (ap (times x) e ∙ times-right x old ∙ sym (mul4-same x old))
 
@@ -272,14 +273,14 @@ module _ {d : ℕ} {st p c : List Float} {t : List (List Float)} {m : Matrices} 
   -- the model matrix: a push copies the top, then the top is written
   pub model-set : (push load : Bool) (x : Mat4)
       → MatrixSame (pushed push d) (put st (matrixWidth * (pushed push d - 1)) (laid (made load x (rows st (matrixWidth * (d - 1)))))) p c t (write-top load x (push-model push m))
-  unfolding pushed push-model
+  unfolding pushed push-model pick
   model-set push load x =
       subst
-      (λ (n : Matrices). MatrixSame (cond (push && ltb d 32) (d + 1) d) (put st (matrixWidth * (cond (push && ltb d 32) (d + 1) d - 1)) (laid (made load x (rows st (matrixWidth * (d - 1)))))) p c t (write-top load x (push-model push n)))
+      (λ (n : Matrices). MatrixSame (pick (push && ltb d 32) (d + 1) d) (put st (matrixWidth * (pick (push && ltb d 32) (d + 1) d - 1)) (laid (made load x (rows st (matrixWidth * (d - 1)))))) p c t (write-top load x (push-model push n)))
       named-is (go (push && ltb d 32) refl)
     where
       go : (b : Bool) → push && ltb d 32 ≡ b
-          → MatrixSame (cond b (d + 1) d) (put st (matrixWidth * (cond b (d + 1) d - 1)) (laid (made load x (rows st (matrixWidth * (d - 1)))))) p c t
+          → MatrixSame (pick b (d + 1) d) (put st (matrixWidth * (pick b (d + 1) d - 1)) (laid (made load x (rows st (matrixWidth * (d - 1)))))) p c t
           (write-top load x (cond b (with-stack named (set (m .model-stack) d (getD (m .model-stack) (d - 1) [])) (d + 1)) named))
       go true e = pushed-set load x (ltb-true d 32 (and-right push (ltb d 32) e))
       go false e = kept-set load x

@@ -7,6 +7,7 @@ use mathlib.Core.List.{List, [], _∷_}
 use mathlib.Core.Option.{none, some}
 use lib.IntN.{pos, negsuc}
 use lib.Ieee.{toBits, ofInt, round, add, mul, div, neg, lt, le, eq}
+use Rattle.numbers.specs.Choice.{pick}
 use Rattle.numbers.specs.Sqrt.{sqrt}
 use Rattle.areas.specs.Area.{eqbℤ}
 use Rattle.stage.specs.declared.settings.Microcode.the-variants.{F3dex2, F3dex2NoN}
@@ -21,7 +22,7 @@ use Rattle.original.proofs.Dump.{laid-out, slot-lines, Dump, dump, outc
 
 -- what commands come to from the start
 unfoldable pub comes-to : List Command → Result (List (List ℕ) × Dump)
-unfolding toBits ofInt round add mul div neg lt le eq sqrt eqbℤ mul-row-vec4 mul-col-vec3 mul4 read-matrix read-vertex eq-mat last-is key-is switch-microcode recompute-mvp push-model write-top matrix-fn force-matrix popped-size pop-matrix prepare-vertex set-viewport set-num-lights set-light set-lookat push as-f32 texcoords-then unit-length fold-lights lights-then light-entries texgen-of looking-then lookat-entries position clip-code screen-of slot-then made-by vertices slots-then columns-then sharing-of set-vertex made-at unit-index unit-then modify-colour modify-texture modify-screen-at copied-slots change-at modify-vertex common cull-display-list branch-z runs-then draw-tri start execute walk laid-out slot-lines dump outcome
+unfolding toBits ofInt round add mul div neg lt le eq pick sqrt eqbℤ mul-row-vec4 mul-col-vec3 mul4 read-matrix read-vertex eq-mat last-is key-is switch-microcode recompute-mvp push-model write-top matrix-fn force-matrix popped-size pop-matrix prepare-vertex set-viewport set-num-lights set-light set-lookat push as-f32 texcoords-then unit-length fold-lights lights-then light-entries texgen-of looking-then lookat-entries position clip-code screen-of slot-then made-by vertices slots-then columns-then sharing-of set-vertex made-at unit-index unit-then modify-colour modify-texture modify-screen-at copied-slots change-at modify-vertex common cull-display-list branch-z runs-then draw-tri start execute walk laid-out slot-lines dump outcome
 comes-to cs = outcome (walk cs start)
 
 abbrev case-code-without-z-commands : List Command

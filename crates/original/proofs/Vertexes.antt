@@ -33,6 +33,7 @@ use Rattle.original.proofs.Alike.{row-same, code-same, screen-same}
 use Rattle.original.proofs.Readers.{vertex-same}
 use Rattle.original.proofs.Draws.{map-set}
 use Rattle.original.proofs.RowsOf.{row-pushed}
+use Rattle.numbers.specs.Choice.{pick}
 
 -- what the rows share, by the names that each side has for it
 pub record ShareSame (o : Offsets) (e : Shared) (x : Sharing) : Type 0 where
@@ -60,22 +61,22 @@ some-value d false x h = sym (h refl)
 
 -- no code is 0, no depth is zero
 no-bits : (p : List Float) → codeOf p .some ≡ false → codeOf p .bits ≡ 0
-unfolding codeOf
+unfolding codeOf pick
 no-bits p = go (allFinite p)
   where
     code : Bool → ClipCode
-    code b = cond b (record { some = true; bits = bitsOf p }) (record { some = false; bits = 0 })
+    code b = pick b (record { some = true; bits = bitsOf p }) (record { some = false; bits = 0 })
 
     go : (b : Bool) → code b .some ≡ false → code b .bits ≡ 0
     go true h = absurd (false≢true (sym h))
     go false h = refl
 
 no-depth : (p : List Float) (c : Bool) (s t : Float) → depthOf p c s t .some ≡ false → depthOf p c s t .z ≡ math.zero
-unfolding depthOf
+unfolding depthOf pick
 no-depth p c s t = go (c && ne (at p 3) math.zero && finite (screenOf p s t))
   where
     depth : Bool → ScreenZ
-    depth b = cond b (record { some = true; z = screenOf p s t }) (record { some = false; z = math.zero })
+    depth b = pick b (record { some = true; z = screenOf p s t }) (record { some = false; z = math.zero })
 
     go : (b : Bool) → depth b .some ≡ false → depth b .z ≡ math.zero
     go true h = absurd (false≢true (sym h))

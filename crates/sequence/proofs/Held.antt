@@ -164,10 +164,10 @@ module _ (p : Port) (h : Fits p) (vs : List ℕ) (t : State) (e : Edits) (z : Al
         fogs = table-after fogWidth (c .fogs) (e .fogs) (l .fogs) (z .fogs) (h .fogs) i;
         rows = rows-after (c .rows) (e .rows) (l .floats) (l .words) (z .floats) (z .words) (h .floats) (h .words) i;
         drawing =
-        record {
-          indices = table-after indexWidth (c .indices) (e .drawing .indices) (l .drawing .indices) (z .indices) (h .indices) i;
-          runs = table-after runWidth (c .runs) (e .drawing .runs) (l .drawing .runs) (z .runs) (h .runs) i;
-        };
+            record {
+              indices = table-after indexWidth (c .indices) (e .drawing .indices) (l .drawing .indices) (z .indices) (h .indices) i;
+              runs = table-after runWidth (c .runs) (e .drawing .runs) (l .drawing .runs) (z .runs) (h .runs) i;
+            };
       }
 
 -- areas are as long as themselves
