@@ -78,7 +78,7 @@ fn table_lines(
     tables::of_singles(b"t4", lights, 6, c.lights);
     tables::of_singles(b"t5", lookats, 6, c.lookats);
     tables::of_halves(b"t6", fogs, 2, c.fogs);
-    tables::of_rows(b"t7", floats, 9, words, 10, c.rows);
+    tables::of_rows(b"t7", floats, vertex::FLOATS, words, vertex::WORDS, c.rows);
     tables::of_words(b"t8", indices, 1, c.indices);
     tables::of_words(b"t9", runs, 8, c.runs);
 }

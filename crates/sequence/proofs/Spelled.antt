@@ -1,5 +1,5 @@
 -- A list of a known length, spelled out number by number. Assumes nothing.
-use mathlib.Core.Path.{_≡_, refl, sym, ap, subst}
+use mathlib.Core.Path.{_≡_, refl, ap}
 use Prim.Native.Nat.{ℕ, zero, suc}
 use native.Mathlib.Omega.{arith}
 use mathlib.Core.List.{List, [], _∷_}
@@ -19,7 +19,3 @@ spells d [] zero h = refl
 spells d [] (suc n) h = absurd (omega arith)
 spells d (x ∷ l) zero h = absurd (omega arith)
 spells {A} d (x ∷ l) (suc n) h = rw (past d x l 0 n) (ap (λ (t : List A). x ∷ t) (spells d l n (omega arith)))
-
--- what holds of ten numbers holds of a list of that length
-pub ten : (P : List ℕ → Type 0) → ((a b c d e f g h i j : ℕ) → P (a ∷ b ∷ c ∷ d ∷ e ∷ f ∷ g ∷ h ∷ i ∷ j ∷ [])) → (l : List ℕ) → length l ≡ 10 → P l
-ten P p l n = subst P (sym (spells 0 l 10 n)) (p _ _ _ _ _ _ _ _ _ _)

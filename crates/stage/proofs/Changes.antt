@@ -9,6 +9,7 @@ use lib.ListN.{length, getD}
 use lib.Dec.{ltb}
 use lib.Ieee.{Float}
 use borrow.Author.Tests.{lt-ltb, le-ltb}
+use Rattle.areas.specs.Widths.{scaleWidth, floatWidth, wordWidth}
 use Rattle.areas.specs.Area.{room, part, write}
 use Rattle.areas.proofs.Tables.{length-entries}
 use Rattle.change.specs.declared.Change.{Change}
@@ -66,7 +67,7 @@ settled : (a d : Bool) (i : ℕ) (r : Row) (s t : State) (l f : List Float) (w :
     → let n3 = s .counts .scales in
     let n7 = s .counts .rows in
     let m : Moved = record { row = pick d n7 i; rows = pick d (n7 + 1) n7; scales = pick a (n3 + 1) n3; unit = 0 } in
-    outcome (record { state = withCounts t (countsTo m (s .counts)); answer = Done }) (pick a (write 4 n3 (unitEntry ∷ []) l) l, write 9 (m .row) (r .floats ∷ []) f, write 10 (m .row) (r .words ∷ []) w)
+    outcome (record { state = withCounts t (countsTo m (s .counts)); answer = Done }) (pick a (write scaleWidth n3 (unitEntry ∷ []) l) l, write floatWidth (m .row) (r .floats ∷ []) f, write wordWidth (m .row) (r .words ∷ []) w)
     ≡ carry areas37 (does [] t (edits37 (pick a (grow (unitEntry ∷ [])) keep) (rowEdit d i r))) s (l, f, w)
 unfolding pick carry
 settled true true i r s t l f w = refl
@@ -81,14 +82,14 @@ looked slots s slot k j t u v x h ek et e d = rw (lt-ltb slot slots h, ← ek, �
 
 -- the judge's verdict on a change asked for, and what is planned once the state is sound
 abbrev pub verdict : ℕ → State → List Float → List Float → List ℕ → ℕ → Asked → Verdict
-verdict slots s l f w slot k = changeJudged k (slotLooked slots s slot) (tablesLooked s (table 4 (s .counts .scales) l) (rowTable (s .counts .rows) f w))
+verdict slots s l f w slot k = changeJudged k (slotLooked slots s slot) (tablesLooked s (table scaleWidth (s .counts .scales) l) (rowTable (s .counts .rows) f w))
 
 abbrev pub plan : ℕ → State → List Float → List Float → List ℕ → ℕ → ℕ → Asked → Plan
-plan slots s l f w slot attribute k = asking k slot attribute (changePlan slots s (table 4 (s .counts .scales) l) (rowTable (s .counts .rows) f w) slot attribute)
+plan slots s l f w slot attribute k = asking k slot attribute (changePlan slots s (table scaleWidth (s .counts .scales) l) (rowTable (s .counts .rows) f w) slot attribute)
 
 -- the row that an accepted change writes stands at the slot's row or behind it, and lies in both areas
 pub written : (slots : ℕ) (s : State) (l f : List Float) (w : List ℕ) (slot : ℕ) (k : Asked) (c : Change) (m : Moved) → verdict slots s l f w slot k ≡ Go c m
-    → (getD (s .row) slot 0 ≤ m .row) × (m .row * 9 + 9 ≤ length f) × (m .row * 10 + 10 ≤ length w)
+    → (getD (s .row) slot 0 ≤ m .row) × (m .row * floatWidth + floatWidth ≤ length f) × (m .row * wordWidth + wordWidth ≤ length w)
 written slots s l f w slot k c m e =
     let t = through k _ _ c m e in
     let h = rows-in (m .row + 1) (length f) (length w) _ refl (t .room) in
@@ -124,9 +125,9 @@ module _ (slots : ℕ) (s : State) (l f : List Float) (w : List ℕ) (slot attri
   module _ (k : Asked) (c : Change) (m : Moved) (e : verdict slots s l f w slot k ≡ Go c m) where
     -- an accepted change: the state t and the areas x, y and z are those of the plan, where the leaves have left them so
     pub accepted : (t : State) (x y : List Float) (z : List ℕ)
-        → x ≡ pick (ltb (s .counts .scales) (m .scales)) (write 4 (s .counts .scales) (unitEntry ∷ []) l) l
-        → y ≡ write 9 (m .row) (floatsAfter c (part f (getD (s .row) slot 0 * 9) 9) ∷ []) f
-        → z ≡ write 10 (m .row) (wordsAfter c (m .unit - 1) (part w (getD (s .row) slot 0 * 10) 10) ∷ []) w
+        → x ≡ pick (ltb (s .counts .scales) (m .scales)) (write scaleWidth (s .counts .scales) (unitEntry ∷ []) l) l
+        → y ≡ write floatWidth (m .row) (floatsAfter c (part f (getD (s .row) slot 0 * floatWidth) floatWidth) ∷ []) f
+        → z ≡ write wordWidth (m .row) (wordsAfter c (m .unit - 1) (part w (getD (s .row) slot 0 * wordWidth) wordWidth) ∷ []) w
         → t ≡ withCounts (changed c m s slot) (countsTo m (s .counts))
         → outcome (record { state = t; answer = Done }) (x, y, z) ≡ carry areas37 (plan slots s l f w slot attribute k) s (l, f, w)
     unfolding comesTo

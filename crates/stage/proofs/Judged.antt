@@ -5,6 +5,7 @@ use mathlib.Core.List.{List, [], _∷_}
 use lib.ListN.{getD}
 use mathlib.Core.Bool.{Bool, true, false, _&&_, false≢true}
 use borrow.Author.Tests.{leb-true}
+use Rattle.areas.specs.Widths.{most}
 use Rattle.stage.specs.declared.State.{State}
 use Rattle.stage.specs.Sound.{all, stateSound}
 
@@ -22,16 +23,16 @@ pub record Ranges (s : State) : Type 0 where
   pub high : s .depth ≤ 32
   pub lights : s .lights .number ≤ 7
   pub matrix : 1 ≤ s .counts .matrices
-  pub matrices : s .counts .matrices ≤ 1048576
+  pub matrices : s .counts .matrices ≤ most
   pub viewport : 1 ≤ s .counts .viewports
-  pub viewports : s .counts .viewports ≤ 1048576
-  pub scales : s .counts .scales ≤ 1048576
-  pub folded : s .counts .lights ≤ 1048576
-  pub lookats : s .counts .lookats ≤ 1048576
-  pub fogs : s .counts .fogs ≤ 1048576
-  pub rows : s .counts .rows ≤ 1048576
-  pub indices : s .counts .indices ≤ 1048576
-  pub runs : s .counts .runs ≤ 1048576
+  pub viewports : s .counts .viewports ≤ most
+  pub scales : s .counts .scales ≤ most
+  pub folded : s .counts .lights ≤ most
+  pub lookats : s .counts .lookats ≤ most
+  pub fogs : s .counts .fogs ≤ most
+  pub rows : s .counts .rows ≤ most
+  pub indices : s .counts .indices ≤ most
+  pub runs : s .counts .runs ≤ most
 
 pub ranges : (s : State) → stateSound s ≡ true → Ranges s
 unfolding stateSound

@@ -11,6 +11,7 @@ use mathlib.Core.List.{List, [], _∷_, map}
 use lib.ListN.{length, length-map}
 use lib.IntN.{ℤ}
 use lib.Ieee.{Float}
+use Rattle.areas.specs.Widths.{most, matrixWidth, scaleWidth, fogWidth, floatWidth, wordWidth}
 use Rattle.areas.specs.Area.{entries, room, write}
 use Rattle.areas.proofs.Tables.{length-entries, room-fits}
 use Rattle.matrix.specs.Math.{rows}
@@ -45,16 +46,16 @@ use Rattle.stage.proofs.Cascade.{refused, passed}
 
 -- ---- the tables, as the code judges them
 
-length-rows : (n : ℕ) (f : List Float) (w : List ℕ) → length (rowsOf (entries 9 n f) (entries 10 n w)) ≡ n
+length-rows : (n : ℕ) (f : List Float) (w : List ℕ) → length (rowsOf (entries floatWidth n f) (entries wordWidth n w)) ≡ n
 length-rows zero f w = refl
-length-rows (suc n) f w = ap suc (length-rows n (lib.ListN.drop 9 f) (lib.ListN.drop 10 w))
+length-rows (suc n) f w = ap suc (length-rows n (lib.ListN.drop floatWidth f) (lib.ListN.drop wordWidth w))
 
 six-lent : (c : Counts) (l : LoadAreas) (e : Edits) (m : More) (r : Rooms)
     → r ≡ roomsOf (length (l .matrices)) (length (l .scales)) (length (l .lights)) (length (l .lookats)) (length (l .fogs)) (length (l .floats)) (length (l .words))
     → record { matrices = more (e .matrices); scales = more (e .scales); lights = more (e .lights); lookats = more (e .lookats); fogs = more (e .fogs); rows = more (e .rows) } ≡ m
     → loadLent (loadTables c l) e ≡ sixLent c m r
 unfolding roomsOf
-six-lent c l e m r a b = rw (a, ← b, length-entries 16 (c .matrices) (l .matrices), length-entries 4 (c .scales) (l .scales), length-entries 6 (c .lights) (l .lights), length-entries 6 (c .lookats) (l .lookats), length-entries 2 (c .fogs) (l .fogs), length-rows (c .rows) (l .floats) (l .words))
+six-lent c l e m r a b = rw (a, ← b, length-entries matrixWidth (c .matrices) (l .matrices), length-entries scaleWidth (c .scales) (l .scales), length-entries 6 (c .lights) (l .lights), length-entries 6 (c .lookats) (l .lookats), length-entries fogWidth (c .fogs) (l .fogs), length-rows (c .rows) (l .floats) (l .words))
 
 -- how many entries each edit appends
 more-if : {E : Type 0} (b : Bool) (es : List E) (k : ℕ) → length es ≡ k → more (onlyIf b es) ≡ pick b k 0
@@ -89,16 +90,16 @@ rows-room c m r e =
 
 -- ---- what has been judged by the time the rows are written
 
-fits-rows : (c : Counts) (d : Settled) (s : State) (m : More) (r : Rooms) (count f w : ℕ) → m ≡ moreBy d s count → r .rows ≡ min (room 9 f) (room 10 w) → firstShort (sixLent c m r) ≡ 0
-    → (c .rows + count ≤ 1048576) × ((c .rows + count) * 9 ≤ f) × ((c .rows + count) * 10 ≤ w)
+fits-rows : (c : Counts) (d : Settled) (s : State) (m : More) (r : Rooms) (count f w : ℕ) → m ≡ moreBy d s count → r .rows ≡ min (room floatWidth f) (room wordWidth w) → firstShort (sixLent c m r) ≡ 0
+    → (c .rows + count ≤ most) × ((c .rows + count) * floatWidth ≤ f) × ((c .rows + count) * wordWidth ≤ w)
 unfolding moreBy
 fits-rows c d s m r count f w e g h =
-    let k : c .rows + count ≤ min (room 9 f) (room 10 w) = subst (λ (n : ℕ). c .rows + n ≤ min (room 9 f) (room 10 w)) (ap (λ (x : More). x .rows) e) (subst (λ (n : ℕ). c .rows + m .rows ≤ n) g (rows-room c m r h)) in
-    let a = room-fits 9 f (c .rows + count) (omega arith) in
-    let b = room-fits 10 w (c .rows + count) (omega arith) in
+    let k : c .rows + count ≤ min (room floatWidth f) (room wordWidth w) = subst (λ (n : ℕ). c .rows + n ≤ min (room floatWidth f) (room wordWidth w)) (ap (λ (x : More). x .rows) e) (subst (λ (n : ℕ). c .rows + m .rows ≤ n) g (rows-room c m r h)) in
+    let a = room-fits floatWidth f (c .rows + count) (omega arith) in
+    let b = room-fits wordWidth w (c .rows + count) (omega arith) in
     (a .1, a .0, b .0)
 
-ranged : (s : State) (d : Settled) (x y : List (List Float)) (n : ℕ) (l : List ℤ) → n ≡ s .counts .fogs → d ≡ settled (familyOf (s .microcode)) s x y (entries 2 n l) → Ranges s → Ranged s d
+ranged : (s : State) (d : Settled) (x y : List (List Float)) (n : ℕ) (l : List ℤ) → n ≡ s .counts .fogs → d ≡ settled (familyOf (s .microcode)) s x y (entries fogWidth n l) → Ranges s → Ranged s d
 unfolding settled
 ranged s d x y n l g e r =
     record {
@@ -109,9 +110,9 @@ ranged s d x y n l g e r =
       fogs = r .fogs;
       number = r .lights;
       place =
-          let p : d .fogat ≡ find (entries 2 n l) (fogPair s) = ap (λ (x : Settled). x .fogat) e in
-          let w : find (entries 2 n l) (fogPair s) ≤ length (entries 2 n l) = find-first (entries 2 n l) (fogPair s) .within in
-          let z : length (entries 2 n l) ≡ n = length-entries 2 n l in
+          let p : d .fogat ≡ find (entries fogWidth n l) (fogPair s) = ap (λ (x : Settled). x .fogat) e in
+          let w : find (entries fogWidth n l) (fogPair s) ≤ length (entries fogWidth n l) = find-first (entries fogWidth n l) (fogPair s) .within in
+          let z : length (entries fogWidth n l) ≡ n = length-entries fogWidth n l in
           let u = r .fogs in
           omega arith;
     }
@@ -171,18 +172,18 @@ module _ (s s′ t : State) (d : Settled) (e : Shared) (m : List (List Float)) (
       ∙ ap (λ (x : Shared). fillSlots (settledState d s) m x first (s .counts .rows) vs) is-shared
       ∙ ap (λ (x : List (List Float)). fillSlots (settledState d s) x (sharedBy d s) first (s .counts .rows) vs) is-matrix
 
-  floats-then : k .floats ≡ write 9 (s .counts .rows) (map (λ r. r .floats) (map (vertexRow (sharedBy d s)) vs)) (l .floats)
+  floats-then : k .floats ≡ write floatWidth (s .counts .rows) (map (λ r. r .floats) (map (vertexRow (sharedBy d s)) vs)) (l .floats)
   floats-then =
       laid .floats
-      ∙ ap (λ (n : ℕ). write 9 n (map floatsOf vs) (l .floats)) base
-      ∙ ap (λ (es : List (List Float)). write 9 (s .counts .rows) es (l .floats)) (sym (rows-floats (sharedBy d s) vs))
+      ∙ ap (λ (n : ℕ). write floatWidth n (map floatsOf vs) (l .floats)) base
+      ∙ ap (λ (es : List (List Float)). write floatWidth (s .counts .rows) es (l .floats)) (sym (rows-floats (sharedBy d s) vs))
 
-  words-then : k .words ≡ write 10 (s .counts .rows) (map (λ r. r .words) (map (vertexRow (sharedBy d s)) vs)) (l .words)
+  words-then : k .words ≡ write wordWidth (s .counts .rows) (map (λ r. r .words) (map (vertexRow (sharedBy d s)) vs)) (l .words)
   words-then =
       laid .words
-      ∙ ap (λ (n : ℕ). write 10 n (map (wordsOf e) vs) (l .words)) base
-      ∙ ap (λ (x : Shared). write 10 (s .counts .rows) (map (wordsOf x) vs) (l .words)) is-shared
-      ∙ ap (λ (es : List (List ℕ)). write 10 (s .counts .rows) es (l .words)) (sym (rows-words (sharedBy d s) vs))
+      ∙ ap (λ (n : ℕ). write wordWidth n (map (wordsOf e) vs) (l .words)) base
+      ∙ ap (λ (x : Shared). write wordWidth (s .counts .rows) (map (wordsOf x) vs) (l .words)) is-shared
+      ∙ ap (λ (es : List (List ℕ)). write wordWidth (s .counts .rows) es (l .words)) (sym (rows-words (sharedBy d s) vs))
 
   pub load-done : outcome (record { state = withCounts t (withRowCount c (c .rows + count)); answer = Told notice }) k
       ≡ carry areasLoad (loadDone d s first vs) s l
@@ -224,7 +225,7 @@ shortOf s r = firstShort (sixLent (s .counts) noMore r)
 pub record Sized (s : State) (l : LoadAreas) (first count at : ℕ) (bytes : List ℕ) (d : Settled) (full : ℕ) : Type 0 where
   pub roomed : Roomed s l first count at bytes
   pub fits : shortOf s (roomed .rooms) ≡ 0
-  pub is-settled : d ≡ settled (familyOf (s .microcode)) s (entries 16 (s .counts .matrices) (l .matrices)) (entries 4 (s .counts .scales) (l .scales)) (entries 2 (s .counts .fogs) (l .fogs))
+  pub is-settled : d ≡ settled (familyOf (s .microcode)) s (entries matrixWidth (s .counts .matrices) (l .matrices)) (entries scaleWidth (s .counts .scales) (l .scales)) (entries fogWidth (s .counts .fogs) (l .fogs))
   pub more : More
   pub is-more : more ≡ moreBy d s count
   pub is-full : full ≡ firstShort (sixLent (s .counts) more (roomed .rooms))
@@ -361,6 +362,6 @@ rows-fit s s′ d first count at b f w e h = subst (λ (x : State). RowsFit x fi
 
 -- the count of rows then
 pub rows-count : (s : State) (d : Settled) (e : Edits) (c : Counts) (a b l o : List Float) (f : List ℤ) (a′ b′ l′ o′ : List Float) (f′ : List ℤ) (first count at : ℕ) (bs : List ℕ) (x : List Float) (w : List ℕ)
-    → TablesAre d s e c a b l o f a′ b′ l′ o′ f′ → RowsFit (settledState d s) first count at bs x w → c .rows + count ≤ 1048576
+    → TablesAre d s e c a b l o f a′ b′ l′ o′ f′ → RowsFit (settledState d s) first count at bs x w → c .rows + count ≤ most
 unfolding settledState
-rows-count s d e c a b l o f a′ b′ l′ o′ f′ first count at bs x w t h = subst (λ (n : ℕ). n + count ≤ 1048576) (sym (ap (λ (y : Counts). y .rows) (t .counts))) (h .rows)
+rows-count s d e c a b l o f a′ b′ l′ o′ f′ first count at bs x w t h = subst (λ (n : ℕ). n + count ≤ most) (sym (ap (λ (y : Counts). y .rows) (t .counts))) (h .rows)

@@ -10,6 +10,7 @@ use lib.Seq.{take-take, set-getD, getD-set-other}
 use lib.Dec.{eqb, ltb}
 use lib.Ieee.{Float}
 use borrow.Author.Tests.{eqb-true, eqb-false, le-ltb, ne-eqb}
+use Rattle.areas.specs.Widths.{scaleWidth, floatWidth, wordWidth}
 use Rattle.areas.specs.Area.{part, write}
 use Rattle.change.specs.declared.Change.{Change}
 use Rattle.change.specs.declared.Change.the-variants.{Colour, Texture, Screen, Depth}
@@ -37,7 +38,7 @@ Areas = List Float × List Float × List ℕ
 -- what a modify comes to
 abbrev pub modified : ℕ → State → List Float → List Float → List ℕ → ℕ → ℕ → ℕ → Outcome Areas
 modified slots s l f w slot attribute value =
-    carry areas37 (modifyPlan slots s (table 4 (s .counts .scales) l) (rowTable (s .counts .rows) f w) slot attribute value) s (l, f, w)
+    carry areas37 (modifyPlan slots s (table scaleWidth (s .counts .scales) l) (rowTable (s .counts .rows) f w) slot attribute value) s (l, f, w)
 
 -- no change asks for the unit scale entry where it is there
 there-is : (c : Change) (unit : ℕ) → unit ≢ 0 → appends c unit ≡ false
@@ -57,9 +58,9 @@ module _ (slots : ℕ) (s : State) (l f : List Float) (w : List ℕ) (slot attri
       → (
       (c : Change) (m : Moved) → verdict slots s l f w slot (decoded attribute value) ≡ Go c m
       → P (outcome (record { state = withCounts (changed c m s slot) (countsTo m (s .counts)); answer = Done }) (
-        pick (ltb (s .counts .scales) (m .scales)) (write 4 (s .counts .scales) (unitEntry ∷ []) l) l,
-        write 9 (m .row) (floatsAfter c (part f (getD (s .row) slot 0 * 9) 9) ∷ []) f,
-        write 10 (m .row) (wordsAfter c (m .unit - 1) (part w (getD (s .row) slot 0 * 10) 10) ∷ []) w,
+        pick (ltb (s .counts .scales) (m .scales)) (write scaleWidth (s .counts .scales) (unitEntry ∷ []) l) l,
+        write floatWidth (m .row) (floatsAfter c (part f (getD (s .row) slot 0 * floatWidth) floatWidth) ∷ []) f,
+        write wordWidth (m .row) (wordsAfter c (m .unit - 1) (part w (getD (s .row) slot 0 * wordWidth) wordWidth) ∷ []) w,
       ))
       )
       → P (modified slots s l f w slot attribute value)
@@ -93,45 +94,45 @@ module _ (slots : ℕ) (s : State) (l f : List Float) (w : List ℕ) (slot attri
         by false d = (q ∙ rests d .0, d)
 
     -- the row that is written has all its numbers
-    floats-long : length (floatsAfter c (part f (getD (s .row) slot 0 * 9) 9)) ≡ 9
+    floats-long : length (floatsAfter c (part f (getD (s .row) slot 0 * floatWidth) floatWidth)) ≡ floatWidth
     floats-long =
         let h = written slots s l f w slot _ c m e in
-        floats-kept c _ ∙ part-long f (getD (s .row) slot 0 * 9) 9 (omega arith)
+        floats-kept c _ ∙ part-long f (getD (s .row) slot 0 * floatWidth) floatWidth (omega arith)
 
-    words-long : length (wordsAfter c (m .unit - 1) (part w (getD (s .row) slot 0 * 10) 10)) ≡ 10
+    words-long : length (wordsAfter c (m .unit - 1) (part w (getD (s .row) slot 0 * wordWidth) wordWidth)) ≡ wordWidth
     words-long =
         let h = written slots s l f w slot _ c m e in
-        words-kept c _ _ ∙ part-long w (getD (s .row) slot 0 * 10) 10 (omega arith)
+        words-kept c _ _ ∙ part-long w (getD (s .row) slot 0 * wordWidth) wordWidth (omega arith)
 
     -- its position is the one that was there
     position : (i : ℕ) → i < s .counts .rows → (b : Bool) → eqb i (m .row) ≡ b
-        → part (write 9 (m .row) (floatsAfter c (part f (getD (s .row) slot 0 * 9) 9) ∷ []) f) (i * 9) 3 ≡ part f (i * 9) 3
-    position i h false q = elsewhere f _ 9 i (m .row) 3 floats-long (omega arith) (eqb-false i (m .row) q)
+        → part (write floatWidth (m .row) (floatsAfter c (part f (getD (s .row) slot 0 * floatWidth) floatWidth) ∷ []) f) (i * floatWidth) 3 ≡ part f (i * floatWidth) 3
+    position i h false q = elsewhere f _ floatWidth i (m .row) 3 floats-long (omega arith) (eqb-false i (m .row) q)
     position i h true q =
         let t : i ≡ m .row = eqb-true i (m .row) q in
         let k = written slots s l f w slot _ c m e in
         rw (
           t,
-          there f (floatsAfter c (part f (getD (s .row) slot 0 * 9) 9)) 9 (m .row) 3 floats-long (omega arith) (k .1),
-          position-kept c (part f (getD (s .row) slot 0 * 9) 9),
-          row-part f (getD (s .row) slot 0 * 9) 3 9 (omega arith),
+          there f (floatsAfter c (part f (getD (s .row) slot 0 * floatWidth) floatWidth)) floatWidth (m .row) 3 floats-long (omega arith) (k .1),
+          position-kept c (part f (getD (s .row) slot 0 * floatWidth) floatWidth),
+          row-part f (getD (s .row) slot 0 * floatWidth) 3 floatWidth (omega arith),
           ← own i h t .0,
           t,
         )
 
   -- NO ROW'S POSITION IS EVER WRITTEN: x, y and z of every row in use stay
-  pub positions-stay : (i : ℕ) → i < s .counts .rows → part (modified slots s l f w slot attribute value .areas .1) (i * 9) 3 ≡ part f (i * 9) 3
-  positions-stay i h = by-cases (λ o. part (o .areas .1) (i * 9) 3 ≡ part f (i * 9) 3) (λ n vs. refl) (λ c m e. position c m e i h _ refl)
+  pub positions-stay : (i : ℕ) → i < s .counts .rows → part (modified slots s l f w slot attribute value .areas .1) (i * floatWidth) 3 ≡ part f (i * floatWidth) 3
+  positions-stay i h = by-cases (λ o. part (o .areas .1) (i * floatWidth) 3 ≡ part f (i * floatWidth) 3) (λ n vs. refl) (λ c m e. position c m e i h _ refl)
 
   -- EVERY OTHER ROW STAYS, and the slot's own too where the slot was drawn since the row was made
   pub rows-stay : (i : ℕ) → i < s .counts .rows → (i ≡ getD (s .row) slot 0 → getD (s .drawn) slot false ≡ true)
       → let o = modified slots s l f w slot attribute value in
-      (part (o .areas .1) (i * 9) 9 ≡ part f (i * 9) 9) × (part (o .areas .2) (i * 10) 10 ≡ part w (i * 10) 10)
+      (part (o .areas .1) (i * floatWidth) floatWidth ≡ part f (i * floatWidth) floatWidth) × (part (o .areas .2) (i * wordWidth) wordWidth ≡ part w (i * wordWidth) wordWidth)
   rows-stay i h d =
-      by-cases (λ o. (part (o .areas .1) (i * 9) 9 ≡ part f (i * 9) 9) × (part (o .areas .2) (i * 10) 10 ≡ part w (i * 10) 10)) (λ n vs. (refl, refl))
+      by-cases (λ o. (part (o .areas .1) (i * floatWidth) floatWidth ≡ part f (i * floatWidth) floatWidth) × (part (o .areas .2) (i * wordWidth) wordWidth ≡ part w (i * wordWidth) wordWidth)) (λ n vs. (refl, refl))
       (λ c m e.
       let away : i ≢ m .row = λ q. let z = own c m e i h q in false≢true (sym (z .1) ∙ d (z .0)) in
-      (elsewhere f _ 9 i (m .row) 9 (floats-long c m e) (omega arith) away, elsewhere w _ 10 i (m .row) 10 (words-long c m e) (omega arith) away))
+      (elsewhere f _ floatWidth i (m .row) floatWidth (floats-long c m e) (omega arith) away, elsewhere w _ wordWidth i (m .row) wordWidth (words-long c m e) (omega arith) away))
 
   -- A SLOT THAT WAS NOT DRAWN KEEPS ITS ROW, and no row is appended
   pub in-place : getD (s .drawn) slot false ≡ false

@@ -9,6 +9,7 @@ use lib.ListN.{length, getD}
 use lib.Dec.{leb}
 use lib.Ieee.{Float}
 use borrow.Author.Tests.{leb-true}
+use Rattle.areas.specs.Widths.{floatWidth, wordWidth}
 use Rattle.areas.specs.Area.{entries, room, part}
 use Rattle.areas.proofs.Tables.{length-entries, entry-is, room-fits}
 use Rattle.change.specs.Steps.{rowRoom}
@@ -38,29 +39,29 @@ at-rowsOf (f ∷ fs) (w ∷ ws) (suc i) h k = at-rowsOf fs ws i (le-of-suc-le-su
 module _ (n : ℕ) (f : List Float) (w : List ℕ) where
   -- as many rows are in use as the count says
   pub length-rows : length (rowTable n f w .used) ≡ n
-  length-rows = length-rowsOf (entries 9 n f) (entries 10 n w) (length-entries 9 n f ∙ sym (length-entries 10 n w)) ∙ length-entries 9 n f
+  length-rows = length-rowsOf (entries floatWidth n f) (entries wordWidth n w) (length-entries floatWidth n f ∙ sym (length-entries wordWidth n w)) ∙ length-entries floatWidth n f
 
   -- the u32 numbers of the rows in use
-  pub words-of-rows : map rowWords (rowTable n f w .used) ≡ entries 10 n w
-  words-of-rows = words-rowsOf (entries 9 n f) (entries 10 n w) (length-entries 9 n f ∙ sym (length-entries 10 n w))
+  pub words-of-rows : map rowWords (rowTable n f w .used) ≡ entries wordWidth n w
+  words-of-rows = words-rowsOf (entries floatWidth n f) (entries wordWidth n w) (length-entries floatWidth n f ∙ sym (length-entries wordWidth n w))
 
   -- row i, read in the two areas
-  pub row-at : (i : ℕ) → i < n → getD (rowTable n f w .used) i (record { floats = []; words = [] }) ≡ record { floats = part f (i * 9) 9; words = part w (i * 10) 10 }
+  pub row-at : (i : ℕ) → i < n → getD (rowTable n f w .used) i (record { floats = []; words = [] }) ≡ record { floats = part f (i * floatWidth) floatWidth; words = part w (i * wordWidth) wordWidth }
   row-at i h =
-      at-rowsOf (entries 9 n f) (entries 10 n w) i (rw length-entries h) (rw length-entries h)
-      ∙ rw (entry-is 9 n i f h, entry-is 10 n i w h)
+      at-rowsOf (entries floatWidth n f) (entries wordWidth n w) i (rw length-entries h) (rw length-entries h)
+      ∙ rw (entry-is floatWidth n i f h, entry-is wordWidth n i w h)
 
   -- what the code finds of the table, by the room that it worked out, is what the judge asks
   pub rows-hold : (k m : ℕ) (r : Bool) → m ≡ rowRoom (length f) (length w) → r ≡ leb (n + k) m → r ≡ leb (length (rowTable n f w .used) + k) (rowTable n f w .room)
   rows-hold k m r e h = h ∙ rw (e, length-rows)
 
 -- rows that there is room for lie in both areas
-pub rows-in : (k a b m : ℕ) → m ≡ rowRoom a b → k ≤ m → (k * 9 ≤ a) × (k * 10 ≤ b)
+pub rows-in : (k a b m : ℕ) → m ≡ rowRoom a b → k ≤ m → (k * floatWidth ≤ a) × (k * wordWidth ≤ b)
 rows-in k a b m e h =
-    let x : k ≤ room 9 a = omega arith in
-    let y : k ≤ room 10 b = omega arith in
-    (room-fits 9 a k x .0, room-fits 10 b k y .0)
+    let x : k ≤ room floatWidth a = omega arith in
+    let y : k ≤ room wordWidth b = omega arith in
+    (room-fits floatWidth a k x .0, room-fits wordWidth b k y .0)
 
 -- so do those that refusal 8 lets through
-pub rows-held : (k a b m : ℕ) → m ≡ rowRoom a b → leb (k + 0) m ≡ true → (k * 9 ≤ a) × (k * 10 ≤ b)
+pub rows-held : (k a b m : ℕ) → m ≡ rowRoom a b → leb (k + 0) m ≡ true → (k * floatWidth ≤ a) × (k * wordWidth ≤ b)
 rows-held k a b m e t = let h : k + 0 ≤ m = leb-true (k + 0) m t in rows-in k a b m e (omega arith)

@@ -10,6 +10,7 @@ use lib.Dec.{leb, ltb}
 use lib.ListN.{length, getD, set, length-append}
 use borrow.Author.Tests.{le-leb, leb-true}
 use Rattle.areas.specs.Area.{room, entries, put, write}
+use Rattle.areas.specs.Widths.{indexWidth, runWidth, settingsWide}
 use Rattle.areas.proofs.Tables.{length-entries, write-one}
 use Rattle.decide.specs.declared.family.Family.{Family}
 use Rattle.triangle.specs.declared.run.Last.{Last}
@@ -76,28 +77,28 @@ run-room false us n w r q e h = rw e
 
 -- the judge's tests are those of the plan, stage by stage. n indices and w runs are in use, k is planned where a triangle is recorded, and q
 -- are its settings
-module _ (s : State) (k : Plan) (l m : List ℕ) (n w rows : ℕ) (q : List ℕ) (long : length q ≡ 6) where
-  room-plan : (es : List (List ℕ)) → length es ≡ 3 → w ≤ room 8 (length m)
-      → unless (closed 0 (entries 8 w m) (length (entries 1 n l))) (refuse 10 [])
-      (judge 9 (lent 8 (table 1 n l) (grow es) ∷ lent 9 (table 8 w m) (runEdit (entries 8 w m) (length (entries 1 n l)) q) ∷ []) k)
+module _ (s : State) (k : Plan) (l m : List ℕ) (n w rows : ℕ) (q : List ℕ) (long : length q ≡ settingsWide) where
+  room-plan : (es : List (List ℕ)) → length es ≡ 3 → w ≤ room runWidth (length m)
+      → unless (closed 0 (entries runWidth w m) (length (entries indexWidth n l))) (refuse 10 [])
+      (judge 9 (lent 8 (table indexWidth n l) (grow es) ∷ lent 9 (table runWidth w m) (runEdit (entries runWidth w m) (length (entries indexWidth n l)) q) ∷ []) k)
       ≡ byVerdict s k (drawLast (drawTables rows n w (length l) (length m)) (lastOf w m q))
   unfolding drawLast
   room-plan es three r =
-      step s k _ _ _ _ _ _ _ (rw (length-entries 1 n l) (sym (last-closes w m q n r))) refl
-      (λ _. step s k _ _ _ _ _ _ _ (rw (length-entries 1 n l, three)) refl
-      (λ _. step s k _ _ _ _ _ _ _ (rw (length-entries 8 w m) (run-room _ (entries 8 w m) (length (entries 1 n l)) w (room 8 (length m)) q (sym (last-same w m q long r)) (le-leb (w + 0) (room 8 (length m)) (omega arith)))) refl
+      step s k _ _ _ _ _ _ _ (rw (length-entries indexWidth n l) (sym (last-closes w m q n r))) refl
+      (λ _. step s k _ _ _ _ _ _ _ (rw (length-entries indexWidth n l, three)) refl
+      (λ _. step s k _ _ _ _ _ _ _ (rw (length-entries runWidth w m) (run-room _ (entries runWidth w m) (length (entries indexWidth n l)) w (room runWidth (length m)) q (sym (last-same w m q long r)) (le-leb (w + 0) (room runWidth (length m)) (omega arith)))) refl
       (λ _. either-way s k (lastOf w m q .used && lastOf w m q .same) 0 (lastOf w m q .start) (lastOf w m q .count + 3) 1 n 3)))
 
   areas-plan : (es : List (List ℕ)) → length es ≡ 3
-      → judge 8 (lent 8 (table 1 n l) keep ∷ lent 9 (table 8 w m) keep ∷ [])
-      (unless (closed 0 (entries 8 w m) (length (entries 1 n l))) (refuse 10 [])
-      (judge 9 (lent 8 (table 1 n l) (grow es) ∷ lent 9 (table 8 w m) (runEdit (entries 8 w m) (length (entries 1 n l)) q) ∷ []) k))
+      → judge 8 (lent 8 (table indexWidth n l) keep ∷ lent 9 (table runWidth w m) keep ∷ [])
+      (unless (closed 0 (entries runWidth w m) (length (entries indexWidth n l))) (refuse 10 [])
+      (judge 9 (lent 8 (table indexWidth n l) (grow es) ∷ lent 9 (table runWidth w m) (runEdit (entries runWidth w m) (length (entries indexWidth n l)) q) ∷ []) k))
       ≡ byVerdict s k (drawAreas (drawTables rows n w (length l) (length m)) (lastOf w m q))
   unfolding drawAreas
   areas-plan es three =
-      step s k _ _ _ _ _ _ _ (rw (length-entries 1 n l)) refl
-      (λ _. step s k _ _ _ _ _ _ _ (rw (length-entries 8 w m)) refl
-      (λ h. let r : w + 0 ≤ room 8 (length m) = leb-true (w + 0) (room 8 (length m)) h in room-plan es three (omega arith)))
+      step s k _ _ _ _ _ _ _ (rw (length-entries indexWidth n l)) refl
+      (λ _. step s k _ _ _ _ _ _ _ (rw (length-entries runWidth w m)) refl
+      (λ h. let r : w + 0 ≤ room runWidth (length m) = leb-true (w + 0) (room runWidth (length m)) h in room-plan es three (omega arith)))
 
 -- the rows as the code reads them are those of the slots, where the slots are known
 placed-is : (s : State) (a b c x y z : ℕ) → x ≡ rowOf s a → y ≡ rowOf s b → z ≡ rowOf s c
@@ -115,7 +116,7 @@ module _ (f : Family) (slots : ℕ) (s : State) (l m : List ℕ) (a b c : ℕ) (
   recording =
       does []
       (withDrawn s (mark (s .drawn) (a ∷ b ∷ c ∷ [])))
-      (edits89 (grow (triangle f s a b c)) (runEdit (entries 8 (s .counts .runs) m) (length (entries 1 (s .counts .indices) l)) asks))
+      (edits89 (grow (triangle f s a b c)) (runEdit (entries runWidth (s .counts .runs) m) (length (entries indexWidth (s .counts .indices) l)) asks))
 
   -- the verdict
   unfoldable pub verdict : Verdict
@@ -127,11 +128,11 @@ module _ (f : Family) (slots : ℕ) (s : State) (l m : List ℕ) (a b c : ℕ) (
       (drawTables (s .counts .rows) (s .counts .indices) (s .counts .runs) (length l) (length m))
       (lastOf (s .counts .runs) m asks)
 
-  pub plan-is : length asks ≡ 6
+  pub plan-is : length asks ≡ settingsWide
       → (held slots (s .ever) a ≡ true → x ≡ rowOf s a)
       → (held slots (s .ever) b ≡ true → y ≡ rowOf s b)
       → (held slots (s .ever) c ≡ true → z ≡ rowOf s c)
-      → drawPlan f slots s (table 1 (s .counts .indices) l) (table 8 (s .counts .runs) m) a b c asked ≡ byVerdict s recording verdict
+      → drawPlan f slots s (table indexWidth (s .counts .indices) l) (table runWidth (s .counts .runs) m) a b c asked ≡ byVerdict s recording verdict
   unfolding drawPlan verdict drawJudged drawSlots
   plan-is long rx ry rz =
       step s recording _ _ _ _ _ _ _ refl refl
@@ -187,20 +188,20 @@ unrecorded s k l (Full i) o = refl
 unrecorded s k l (Record x y z) o = absurd (miss (0 ∷ 1 ∷ 2 ∷ 3 ∷ 4 ∷ []) 5 tt o)
 
 -- what the runs get: their count, and the run that the code writes
-run-effect : (w n x y z : ℕ) (m q : List ℕ) (t : Tables) → length q ≡ 6 → w ≤ room 8 (length m) → t .indices ≡ n
+run-effect : (w n x y z : ℕ) (m q : List ℕ) (t : Tables) → length q ≡ settingsWide → w ≤ room runWidth (length m) → t .indices ≡ n
     → Grown (lastOf w m q) x y z ⊎ Begun t (lastOf w m q) x y z
-    → (counted (runEdit (entries 8 w m) n q) w ≡ w + x) × (after 8 w (runEdit (entries 8 w m) n q) m ≡ put m ((w + x - 1) * 8) (runOf q y z))
+    → (counted (runEdit (entries runWidth w m) n q) w ≡ w + x) × (after runWidth w (runEdit (entries runWidth w m) n q) m ≡ put m ((w + x - 1) * runWidth) (runOf q y z))
 unfolding runEdit pick
 run-effect w n x y z m q t long r at how =
     ⊎-elim
     (λ g.
-    let same : sameRun 0 (entries 8 w m) q ≡ true = sym (last-same w m q long r) ∙ g .grows in
+    let same : sameRun 0 (entries runWidth w m) q ≡ true = sym (last-same w m q long r) ∙ g .grows in
     let p : w - 1 ≡ w + 0 - 1 = omega arith in
     (rw (same, g .none) (sym (add-zero w)), rw (same, g .none, g .begins, g .counts, ← p) (run-grows w m q long r (g .grows))))
     (λ g.
-    let same : sameRun 0 (entries 8 w m) q ≡ false = sym (last-same w m q long r) ∙ g .other in
+    let same : sameRun 0 (entries runWidth w m) q ≡ false = sym (last-same w m q long r) ∙ g .other in
     let p : w ≡ w + 1 - 1 = omega arith in
-    (rw (same, g .one), rw (same, g .one, g .begins, g .counts, at, ← p) (write-one 8 w (runOf q n 3) m)))
+    (rw (same, g .one), rw (same, g .one, g .begins, g .counts, at, ← p) (write-one runWidth w (runOf q n 3) m)))
     how
 
 -- the run that the code writes, by the settings asked for
@@ -237,9 +238,9 @@ module _ (f : Family) (slots : ℕ) (s : State) (l m : List ℕ) (a b c : ℕ) (
 
   -- what is planned, and what it is by the verdict
   abbrev pub planned : Plan
-  planned = drawPlan f slots s (table 1 (s .counts .indices) l) (table 8 (s .counts .runs) m) a b c asked
+  planned = drawPlan f slots s (table indexWidth (s .counts .indices) l) (table runWidth (s .counts .runs) m) a b c asked
 
-  long : length (asks f slots s l m a b c asked (read a) (read b) (read c)) ≡ 6
+  long : length (asks f slots s l m a b c asked (read a) (read b) (read c)) ≡ settingsWide
   long = rw (length-append, four)
 
   reads : (i : ℕ) → held slots (s .ever) i ≡ true → read i ≡ rowOf s i
@@ -258,9 +259,9 @@ module _ (f : Family) (slots : ℕ) (s : State) (l m : List ℕ) (a b c : ℕ) (
   pub has-room : (x y z : ℕ) (v : Verdict) → v ≡ judgement → v ≡ Record x y z → Rooms (s .counts .indices) (s .counts .runs) x (length l) (length m)
   has-room x y z v ev er = rooms _ _ _ _ _ _ _ _ _ _ _ _ (passes f slots s l m a b c asked (read a) (read b) (read c) v x y z ev er)
 
-  -- the rows that the code writes are the entries that table 8 gets
+  -- the rows that the code writes are the entries that table runWidth gets
   index-effect : held slots (s .ever) a ≡ true → held slots (s .ever) b ≡ true → held slots (s .ever) c ≡ true → (n : ℕ)
-      → put l n (corners (swaps f (s .geometry)) (read a) (read b) (read c)) ≡ after 1 n (grow (triangle f s a b c)) l
+      → put l n (corners (swaps f (s .geometry)) (read a) (read b) (read c)) ≡ after indexWidth n (grow (triangle f s a b c)) l
   unfolding write
   index-effect ha hb hc n = rw (reads a ha, reads b hb, reads c hc, mul-one n)
 
@@ -268,7 +269,7 @@ module _ (f : Family) (slots : ℕ) (s : State) (l m : List ℕ) (a b c : ℕ) (
   pub draws : (x y z : ℕ) (v : Verdict) → v ≡ judgement → v ≡ Record x y z
       → (t : State) → t ≡ withCounts (withDrawn s (set (set (set (s .drawn) (a % slots) true) (b % slots) true) (c % slots) true)) (longerBy x (s .counts))
       → (i : List ℕ) → i ≡ put l (s .counts .indices) (corners (swaps f (s .geometry)) (read a) (read b) (read c))
-      → (g : List ℕ) → g ≡ put m ((s .counts .runs + x - 1) * 8) (runOf (settings asked (culls f (s .geometry)) (s .microcode)) y z)
+      → (g : List ℕ) → g ≡ put m ((s .counts .runs + x - 1) * runWidth) (runOf (settings asked (culls f (s .geometry)) (s .microcode)) y z)
       → (u : Verdict) → u ≡ Record x y z → (an : Answer) → an ≡ drawAnswer u
       → outcome (record { state = t; answer = an }) (i, g) ≡ carry areas89 planned s (l, m)
   unfolding carry
@@ -288,7 +289,7 @@ module _ (f : Family) (slots : ℕ) (s : State) (l m : List ℕ) (a b c : ℕ) (
         held-place slots (s .ever) a (h .first),
         held-place slots (s .ever) b (h .second),
         held-place slots (s .ever) c (h .third),
-        length-entries 1 (s .counts .indices) l,
+        length-entries indexWidth (s .counts .indices) l,
         e .0,
         e .1,
       )

@@ -2,6 +2,7 @@
 use mathlib.Core.Path.{_≡_}
 use Prim.Native.Nat.{_+_, _*_, _≤_}
 use lib.ListN.{length, getD}
+use Rattle.areas.specs.Widths.{floatWidth, wordWidth}
 use Rattle.change.specs.declared.Change.{Change}
 use Rattle.change.specs.declared.judge.Moved.{Moved}
 use Rattle.change.specs.declared.judge.Verdict.{Verdict}
@@ -27,7 +28,7 @@ told e x d =
 -- where it is accepted, the row that is written lies in both areas
 fits-areas : (e : tie.After-judge) (x : Change) (m : Moved) → e .judge .result ≡ Go x m
     → let a = e .before .before .before .before .before .before .before .before .before .before .before .before .args in
-    (getD (a .self .row) (a .slot) 0 ≤ m .row) × (m .row * 9 + 9 ≤ length (a .floats .now)) × (m .row * 10 + 10 ≤ length (a .words .now))
+    (getD (a .self .row) (a .slot) 0 ≤ m .row) × (m .row * floatWidth + floatWidth ≤ length (a .floats .now)) × (m .row * wordWidth + wordWidth ≤ length (a .words .now))
 fits-areas e x m d =
     let a = e .before .before .before .before .before .before .before .before .before .before .before .before .args in
     written 256 (a .self) (a .scales .now) (a .floats .now) (a .words .now) (a .slot) _ x m (told e (Go x m) d)
