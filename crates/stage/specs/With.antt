@@ -1,4 +1,5 @@
--- A state with one of its parts replaced. A state is four groups of fields, and a setter makes one group anew: a new field of the state touches its group, and this file alone.
+-- A state with one of its parts replaced. A state is four groups of fields, and a setter of one field makes its group anew; setters of several are made
+-- of those. A new field of the state touches its group, and this file alone.
 use Prim.Native.Nat.{ℕ}
 use mathlib.Core.Bool.{Bool, true, false}
 use mathlib.Core.List.{List}
@@ -90,110 +91,176 @@ withParts s p = state (modesOf s) (matricesOf s) p (slotsOf s)
 abbrev pub withSlots : State → Slots → State
 withSlots s l = state (modesOf s) (matricesOf s) (partsOf s) l
 
--- ---- one field, or two
+-- ---- one field
 
 -- marked as opened or not
 abbrev pub withOpened : State → Bool → State
-withOpened s b = withModes s (record { opened = b; microcode = s .microcode; geometry = s .geometry; fogmul = s .fogmul; fogoff = s .fogoff })
+withOpened s x = withModes s (record { opened = x; microcode = s .microcode; geometry = s .geometry; fogmul = s .fogmul; fogoff = s .fogoff })
 
 -- another microcode
 abbrev pub withMicrocode : State → ℕ → State
-withMicrocode s m = withModes s (record { opened = s .opened; microcode = m; geometry = s .geometry; fogmul = s .fogmul; fogoff = s .fogoff })
+withMicrocode s x = withModes s (record { opened = s .opened; microcode = x; geometry = s .geometry; fogmul = s .fogmul; fogoff = s .fogoff })
 
 -- another geometry mode word
 abbrev pub withGeometry : State → ℕ → State
-withGeometry s g = withModes s (record { opened = s .opened; microcode = s .microcode; geometry = g; fogmul = s .fogmul; fogoff = s .fogoff })
+withGeometry s x = withModes s (record { opened = s .opened; microcode = s .microcode; geometry = x; fogmul = s .fogmul; fogoff = s .fogoff })
 
--- another fog multiplier and offset
-abbrev pub withFog : State → ℤ → ℤ → State
-withFog s x y = withModes s (record { opened = s .opened; microcode = s .microcode; geometry = s .geometry; fogmul = x; fogoff = y })
+-- another fog multiplier
+abbrev pub withFogmul : State → ℤ → State
+withFogmul s x = withModes s (record { opened = s .opened; microcode = s .microcode; geometry = s .geometry; fogmul = x; fogoff = s .fogoff })
 
--- another model stack, of depth d
-abbrev pub withModel : State → ℕ → List Float → State
-withModel s d m = withMatrices s (record { depth = d; stack = m; projection = s .projection; combined = s .combined; defined = s .defined })
+-- another fog offset
+abbrev pub withFogoff : State → ℤ → State
+withFogoff s x = withModes s (record { opened = s .opened; microcode = s .microcode; geometry = s .geometry; fogmul = s .fogmul; fogoff = x })
+
+-- another depth of the model stack
+abbrev pub withDepth : State → ℕ → State
+withDepth s x = withMatrices s (record { depth = x; stack = s .stack; projection = s .projection; combined = s .combined; defined = s .defined })
+
+-- another model stack
+abbrev pub withStack : State → List Float → State
+withStack s x = withMatrices s (record { depth = s .depth; stack = x; projection = s .projection; combined = s .combined; defined = s .defined })
 
 -- another projection
 abbrev pub withProjection : State → List Float → State
-withProjection s m = withMatrices s (record { depth = s .depth; stack = s .stack; projection = m; combined = s .combined; defined = s .defined })
+withProjection s x = withMatrices s (record { depth = s .depth; stack = s .stack; projection = x; combined = s .combined; defined = s .defined })
 
--- another combined matrix, and whether it is defined
-abbrev pub withCombined : State → List Float → Bool → State
-withCombined s m b = withMatrices s (record { depth = s .depth; stack = s .stack; projection = s .projection; combined = m; defined = b })
+-- another combined matrix
+abbrev pub withProduct : State → List Float → State
+withProduct s x = withMatrices s (record { depth = s .depth; stack = s .stack; projection = s .projection; combined = x; defined = s .defined })
 
--- the combined matrix undefined
-abbrev pub undefined : State → State
-undefined s = withCombined s (s .combined) false
+-- the combined matrix defined or not
+abbrev pub withDefined : State → Bool → State
+withDefined s x = withMatrices s (record { depth = s .depth; stack = s .stack; projection = s .projection; combined = s .combined; defined = x })
 
 -- another viewport in force
 abbrev pub withViewport : State → List Float → State
-withViewport s v = withParts s (record { viewport = v; texture = s .texture; lights = s .lights; lookat = s .lookat; counts = s .counts; unit = s .unit })
+withViewport s x = withParts s (record { viewport = x; texture = s .texture; lights = s .lights; lookat = s .lookat; counts = s .counts; unit = s .unit })
 
 -- another texture state
 abbrev pub withTexture : State → Texture → State
-withTexture s t = withParts s (record { viewport = s .viewport; texture = t; lights = s .lights; lookat = s .lookat; counts = s .counts; unit = s .unit })
+withTexture s x = withParts s (record { viewport = s .viewport; texture = x; lights = s .lights; lookat = s .lookat; counts = s .counts; unit = s .unit })
 
 -- other lights
 abbrev pub withLights : State → Lights → State
-withLights s l = withParts s (record { viewport = s .viewport; texture = s .texture; lights = l; lookat = s .lookat; counts = s .counts; unit = s .unit })
+withLights s x = withParts s (record { viewport = s .viewport; texture = s .texture; lights = x; lookat = s .lookat; counts = s .counts; unit = s .unit })
 
 -- another lookat
 abbrev pub withLookat : State → Lookat → State
-withLookat s l = withParts s (record { viewport = s .viewport; texture = s .texture; lights = s .lights; lookat = l; counts = s .counts; unit = s .unit })
+withLookat s x = withParts s (record { viewport = s .viewport; texture = s .texture; lights = s .lights; lookat = x; counts = s .counts; unit = s .unit })
 
 -- other counts
 abbrev pub withCounts : State → Counts → State
-withCounts s c = withParts s (record { viewport = s .viewport; texture = s .texture; lights = s .lights; lookat = s .lookat; counts = c; unit = s .unit })
+withCounts s x = withParts s (record { viewport = s .viewport; texture = s .texture; lights = s .lights; lookat = s .lookat; counts = x; unit = s .unit })
 
 -- another place of the unit scale entry, plus 1
 abbrev pub withUnit : State → ℕ → State
-withUnit s u = withParts s (record { viewport = s .viewport; texture = s .texture; lights = s .lights; lookat = s .lookat; counts = s .counts; unit = u })
+withUnit s x = withParts s (record { viewport = s .viewport; texture = s .texture; lights = s .lights; lookat = s .lookat; counts = s .counts; unit = x })
 
 -- other rows of the slots
 abbrev pub withRow : State → List ℕ → State
-withRow s r = withSlots s (record { row = r; ever = s .ever; loaded = s .loaded; drawn = s .drawn; coded = s .coded; code = s .code; deep = s .deep; z = s .z })
+withRow s x = withSlots s (record { row = x; ever = s .ever; loaded = s .loaded; drawn = s .drawn; coded = s .coded; code = s .code; deep = s .deep; z = s .z })
 
 -- other marks of the slots ever loaded
 abbrev pub withEver : State → List Bool → State
-withEver s v = withSlots s (record { row = s .row; ever = v; loaded = s .loaded; drawn = s .drawn; coded = s .coded; code = s .code; deep = s .deep; z = s .z })
+withEver s x = withSlots s (record { row = s .row; ever = x; loaded = s .loaded; drawn = s .drawn; coded = s .coded; code = s .code; deep = s .deep; z = s .z })
 
 -- other marks of the slots loaded
 abbrev pub withLoaded : State → List Bool → State
-withLoaded s l = withSlots s (record { row = s .row; ever = s .ever; loaded = l; drawn = s .drawn; coded = s .coded; code = s .code; deep = s .deep; z = s .z })
+withLoaded s x = withSlots s (record { row = s .row; ever = s .ever; loaded = x; drawn = s .drawn; coded = s .coded; code = s .code; deep = s .deep; z = s .z })
 
 -- other drawn marks
 abbrev pub withDrawn : State → List Bool → State
-withDrawn s d = withSlots s (record { row = s .row; ever = s .ever; loaded = s .loaded; drawn = d; coded = s .coded; code = s .code; deep = s .deep; z = s .z })
+withDrawn s x = withSlots s (record { row = s .row; ever = s .ever; loaded = s .loaded; drawn = x; coded = s .coded; code = s .code; deep = s .deep; z = s .z })
 
 -- other screen z of the slots
 abbrev pub withZ : State → List Float → State
-withZ s z = withSlots s (record { row = s .row; ever = s .ever; loaded = s .loaded; drawn = s .drawn; coded = s .coded; code = s .code; deep = s .deep; z = z })
+withZ s x = withSlots s (record { row = s .row; ever = s .ever; loaded = s .loaded; drawn = s .drawn; coded = s .coded; code = s .code; deep = s .deep; z = x })
 
--- ---- lights and lookat
-
--- the lights marked changed, or as they were marked
-abbrev pub marked : Lights → Bool → Lights
-marked l b = record { number = l .number; directions = l .directions; colours = l .colours; ambient = l .ambient; changed = b; folded = l .folded; top = l .top; first = l .first }
+-- ---- one field of the lights, or of the lookat
 
 -- another number of lights
 abbrev pub withNumber : Lights → ℕ → Lights
-withNumber l n = record { number = n; directions = l .directions; colours = l .colours; ambient = l .ambient; changed = l .changed; folded = l .folded; top = l .top; first = l .first }
+withNumber l x = record { number = x; directions = l .directions; colours = l .colours; ambient = l .ambient; changed = l .changed; folded = l .folded; top = l .top; first = l .first }
+
+-- other directions of the light slots
+abbrev pub withDirections : Lights → List Float → Lights
+withDirections l x = record { number = l .number; directions = x; colours = l .colours; ambient = l .ambient; changed = l .changed; folded = l .folded; top = l .top; first = l .first }
+
+-- other colours of the light slots
+abbrev pub withColours : Lights → List Float → Lights
+withColours l x = record { number = l .number; directions = l .directions; colours = x; ambient = l .ambient; changed = l .changed; folded = l .folded; top = l .top; first = l .first }
 
 -- another ambient colour
 abbrev pub withAmbient : Lights → List Float → Lights
-withAmbient l a = record { number = l .number; directions = l .directions; colours = l .colours; ambient = a; changed = l .changed; folded = l .folded; top = l .top; first = l .first }
+withAmbient l x = record { number = l .number; directions = l .directions; colours = l .colours; ambient = x; changed = l .changed; folded = l .folded; top = l .top; first = l .first }
+
+-- marked changed or not
+abbrev pub marked : Lights → Bool → Lights
+marked l x = record { number = l .number; directions = l .directions; colours = l .colours; ambient = l .ambient; changed = x; folded = l .folded; top = l .top; first = l .first }
+
+-- marked folded or not
+abbrev pub withFold : Lights → Bool → Lights
+withFold l x = record { number = l .number; directions = l .directions; colours = l .colours; ambient = l .ambient; changed = l .changed; folded = x; top = l .top; first = l .first }
+
+-- another model top with which they were folded
+abbrev pub withTop : Lights → List Float → Lights
+withTop l x = record { number = l .number; directions = l .directions; colours = l .colours; ambient = l .ambient; changed = l .changed; folded = l .folded; top = x; first = l .first }
+
+-- another place of the first
+abbrev pub withFirst : Lights → ℕ → Lights
+withFirst l x = record { number = l .number; directions = l .directions; colours = l .colours; ambient = l .ambient; changed = l .changed; folded = l .folded; top = l .top; first = x }
+
+-- other axes
+abbrev pub axesSet : Lookat → List Float → Lookat
+axesSet l x = record { axes = x; changed = l .changed; folded = l .folded; top = l .top; place = l .place }
+
+-- marked changed or not
+abbrev pub lookMarked : Lookat → Bool → Lookat
+lookMarked l x = record { axes = l .axes; changed = x; folded = l .folded; top = l .top; place = l .place }
+
+-- marked folded or not
+abbrev pub lookFold : Lookat → Bool → Lookat
+lookFold l x = record { axes = l .axes; changed = l .changed; folded = x; top = l .top; place = l .place }
+
+-- another model top with which they were folded
+abbrev pub lookTop : Lookat → List Float → Lookat
+lookTop l x = record { axes = l .axes; changed = l .changed; folded = l .folded; top = x; place = l .place }
+
+-- another place
+abbrev pub lookPlace : Lookat → ℕ → Lookat
+lookPlace l x = record { axes = l .axes; changed = l .changed; folded = l .folded; top = l .top; place = x }
+
+-- ---- several fields
+
+-- another fog multiplier and offset
+abbrev pub withFog : State → ℤ → ℤ → State
+withFog s x y = withFogoff (withFogmul s x) y
+
+-- another model stack, of depth d
+abbrev pub withModel : State → ℕ → List Float → State
+withModel s d m = withStack (withDepth s d) m
+
+-- another combined matrix, and whether it is defined
+abbrev pub withCombined : State → List Float → Bool → State
+withCombined s m b = withDefined (withProduct s m) b
+
+-- the combined matrix undefined
+abbrev pub undefined : State → State
+undefined s = withDefined s false
 
 -- other directions and colours of the light slots
 abbrev pub withColumns : Lights → List Float → List Float → Lights
-withColumns l d c = record { number = l .number; directions = d; colours = c; ambient = l .ambient; changed = l .changed; folded = l .folded; top = l .top; first = l .first }
+withColumns l d c = withColours (withDirections l d) c
 
 -- other lookat axes, marked changed or not
 abbrev pub withAxes : Lookat → List Float → Bool → Lookat
-withAxes l a b = record { axes = a; changed = b; folded = l .folded; top = l .top; place = l .place }
+withAxes l a b = lookMarked (axesSet l a) b
 
 -- the lights folded with the model top m, as entry n
 abbrev pub foldedLights : Lights → List Float → ℕ → Lights
-foldedLights l m n = record { number = l .number; directions = l .directions; colours = l .colours; ambient = l .ambient; changed = false; folded = true; top = m; first = n }
+foldedLights l m n = withFirst (withTop (withFold (marked l false) true) m) n
 
 -- the lookat axes likewise
 abbrev pub foldedLookat : Lookat → List Float → ℕ → Lookat
-foldedLookat l m n = record { axes = l .axes; changed = false; folded = true; top = m; place = n }
+foldedLookat l m n = lookPlace (lookTop (lookFold (lookMarked l false) true) m) n
