@@ -33,12 +33,10 @@ pub fn popped_depth(count: u32, depth: u32) -> u32
 }
 
 // The matrix on top of a stack of so many. Asks for a depth of the stack, since every other is refused before it is read.
-// Each number is read here: a helper that takes the stack costs a copy of it at each call.
-pub fn top_of(stack: [f32; 512], depth: u32) -> [[f32; 4]; 4]
+fn top_of(s: &[f32; 512], depth: u32) -> [[f32; 4]; 4]
     requires { ⌜ (1 ≤ depth) × (depth ≤ 32) ⌝ }
-    ensures { λ r. ⌜ r ≡ rows stack (matrixWidth * (depth - 1)) ⌝ }
+    ensures { λ r. ⌜ r ≡ rows (now (s .entry)) (matrixWidth * (depth - 1)) ⌝ }
 {
-    let s = stack;
     let a = (MATRIX_WIDTH as usize) * ((depth - 1) as usize);
     let b = a + 4;
     let c = a + 8;
@@ -49,6 +47,20 @@ pub fn top_of(stack: [f32; 512], depth: u32) -> [[f32; 4]; 4]
         [s[c], s[c + 1], s[c + 2], s[c + 3]],
         [s[d], s[d + 1], s[d + 2], s[d + 3]],
     ]
+}
+
+// The same. A function that calls itself is never taken into its caller, and then reads the caller's stack where it stands;
+// else a copy of the stack is made first. The call is not reached, since no depth above 32 is asked for.
+pub fn top_at(s: &[f32; 512], depth: u32) -> [[f32; 4]; 4]
+    requires { ⌜ (1 ≤ depth) × (depth ≤ 32) ⌝ }
+    ensures { λ r. ⌜ r ≡ rows (now (s .entry)) (matrixWidth * (depth - 1)) ⌝ }
+{
+    if 32 < depth {
+        let mut t = top_at(s, depth - 32);
+        t[0] = [0.0; 4];
+        return t;
+    }
+    top_of(s, depth)
 }
 
 // The geometry mode word: (old AND off) OR on.

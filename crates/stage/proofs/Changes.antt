@@ -5,9 +5,9 @@ use native.Mathlib.Nat.{add-zero}
 use native.Mathlib.Omega.{arith}
 use mathlib.Core.Bool.{Bool, true, false}
 use mathlib.Core.List.{List, [], _∷_}
-use lib.ListN.{length, getD}
+use lib.ListN.{length, getD, set}
 use lib.Dec.{ltb}
-use lib.Ieee.{Float}
+use lib.Ieee.{Float, nan}
 use borrow.Author.Tests.{lt-ltb, le-ltb}
 use Rattle.areas.specs.Widths.{scaleWidth, floatWidth, wordWidth}
 use Rattle.areas.specs.Area.{room, part, write}
@@ -22,17 +22,19 @@ use Rattle.change.specs.declared.judge.Refusal.the-variants.{NoRow, Short, Full
 use Rattle.change.specs.declared.judge.Refusal.the-variants as refusal
 use Rattle.change.specs.declared.judge.Verdict.{Verdict}
 use Rattle.change.specs.declared.judge.Verdict.the-variants.{No, Go}
-use Rattle.change.specs.Decoded.{floatsAfter, wordsAfter, unitEntry, appends}
+use Rattle.change.specs.Decoded.{decoded, floatsAfter, wordsAfter, depthAfter, unitEntry, appends}
 use Rattle.change.specs.Steps.{comesTo, roomy, changeJudged}
 use Rattle.change.proofs.Accepted.{through}
 use Rattle.stage.specs.declared.State.{State}
-use Rattle.stage.specs.declared.Answer.the-variants.{Done}
+use Rattle.stage.specs.declared.Answer.{Answer}
+use Rattle.stage.specs.declared.Answer.the-variants.{Done, BadState}
 use Rattle.stage.specs.Answers.{number, values}
 use Rattle.stage.specs.Plan.{Table, Edit, keep, grow, patch, Row, Plan, refuse, does, unless, pick, more, table, outcome, carry, rowTable}
-use Rattle.stage.specs.Sound.{sound}
-use Rattle.stage.specs.With.{withCounts}
-use Rattle.stage.specs.Modify.{areas37, edits37, asking, scaleEdit, rowEdit, rowChange, moved, changed, changePlan}
+use Rattle.stage.specs.Sound.{sound, stateSound}
+use Rattle.stage.specs.With.{withCounts, withUnit, withRow, withDrawn, withZ}
+use Rattle.stage.specs.Modify.{areas37, edits37, asking, scaleEdit, rowEdit, rowChange, moved, changed, changePlan, modifyPlan}
 use Rattle.stage.specs.Steps.{modifyAnswer, slotLooked, tablesLooked, countsTo}
+use Rattle.stage.proofs.Cascade.{refused, passed}
 use Rattle.stage.proofs.RowEntries.{length-rows, row-at, rows-in}
 
 -- one entry appended, or none, as a count has it
@@ -76,9 +78,9 @@ settled false true i r s t l f w = refl
 settled false false i r s t l f w = refl
 
 -- the verdict x on what the code looks at of a slot that there is
-pub looked : (slots : ℕ) (s : State) (slot : ℕ) (k j : Asked) (t u : Tables) (v x : Verdict) → slot < slots → k ≡ j → t ≡ u
-    → v ≡ changeJudged k (record { loaded = getD (s .loaded) slot false; drawn = getD (s .drawn) slot false; row = getD (s .row) slot 0 }) t → v ≡ x → changeJudged j (slotLooked slots s slot) u ≡ x
-looked slots s slot k j t u v x h ek et e d = rw (lt-ltb slot slots h, ← ek, ← et) (sym e ∙ d)
+pub looked : (slots : ℕ) (s : State) (slot : ℕ) (k j : Asked) (t u : Tables) (b : Bool) (v x : Verdict) → slot < slots → k ≡ j → t ≡ u → b ≡ getD (s .loaded) slot false
+    → v ≡ changeJudged k (record { loaded = b; drawn = getD (s .drawn) slot false; row = getD (s .row) slot 0 }) t → v ≡ x → changeJudged j (slotLooked slots s slot) u ≡ x
+looked slots s slot k j t u b v x h ek et eb e d = rw (lt-ltb slot slots h, ← eb, ← ek, ← et) (sym e ∙ d)
 
 -- the judge's verdict on a change asked for, and what is planned once the state is sound
 abbrev pub verdict : ℕ → State → List Float → List Float → List ℕ → ℕ → Asked → Verdict
@@ -145,3 +147,39 @@ module _ (slots : ℕ) (s : State) (l f : List Float) (w : List ℕ) (slot attri
           row-at (s .counts .rows) f w (getD (s .row) slot 0) (h .row),
         )
         (settled (appends c (s .unit)) (getD (s .drawn) slot false) (getD (s .row) slot 0) _ s _ l f w)
+
+-- three columns put back as they were
+pub same-state : (s g : State) (d : List Bool) (r : List ℕ) (z : List Float) → g ≡ s → d ≡ s .drawn → r ≡ s .row → z ≡ s .z → withZ (withRow (withDrawn g d) r) z ≡ s
+same-state s g d r z eg ed er ez = rw (eg, ed, er, ez)
+
+-- the state of an accepted change, where the code has set its numbers and put back three columns
+pub changed-state : (c : Change) (m : Moved) (s g : State) (slot : ℕ) (b : Bool) (v : Float) (d : List Bool) (r : List ℕ) (z : List Float)
+    → g ≡ withCounts (withUnit s (m .unit)) (countsTo m (s .counts)) → d ≡ set (s .drawn) slot false → r ≡ set (s .row) slot (m .row) → z ≡ set (s .z) slot v
+    → v ≡ depthAfter c b (getD (s .z) slot nan) → b ≡ getD (s .deep) slot false
+    → withZ (withRow (withDrawn g d) r) z ≡ withCounts (changed c m s slot) (countsTo m (s .counts))
+unfolding changed
+changed-state c m s g slot b v d r z eg ed er ez ev eb = rw (eg, ed, er, ez, ev, eb)
+
+-- ---- the ways out of a modify: the state t, the answer a and the areas x, y and z are those of the plan
+module _ (slots : ℕ) (s : State) (l f : List Float) (w : List ℕ) (slot attribute value : ℕ) (t : State) (a : Answer) (x y : List Float) (z : List ℕ) where
+  abbrev Way : Type 0
+  Way =
+      outcome (record { state = t; answer = a }) (x, y, z)
+      ≡ carry areas37 (modifyPlan slots s (table scaleWidth (s .counts .scales) l) (rowTable (s .counts .rows) f w) slot attribute value) s (l, f, w)
+
+  pub way-unsound : stateSound s ≡ false → t ≡ s → a ≡ BadState → x ≡ l → y ≡ f → z ≡ w → Way
+  unfolding modifyPlan
+  way-unsound h et ea ex ey ez = rw (et, ea, ex, ey, ez) (refused areas37 _ _ _ _ BadState h)
+
+  pub way-refused : (r : Refusal) → stateSound s ≡ true → verdict slots s l f w slot (decoded attribute value) ≡ No r
+      → t ≡ s → a ≡ modifyAnswer slot attribute r → x ≡ l → y ≡ f → z ≡ w → Way
+  unfolding modifyPlan
+  way-refused r h e et ea ex ey ez = rw (et, ea, ex, ey, ez) (passed areas37 _ _ _ _ _ _ _ h (refused-by slots s l f w slot attribute _ r e))
+
+  pub way-accepted : (c : Change) (m : Moved) → stateSound s ≡ true → verdict slots s l f w slot (decoded attribute value) ≡ Go c m
+      → t ≡ withCounts (changed c m s slot) (countsTo m (s .counts)) → a ≡ Done
+      → x ≡ pick (ltb (s .counts .scales) (m .scales)) (write scaleWidth (s .counts .scales) (unitEntry ∷ []) l) l
+      → y ≡ write floatWidth (m .row) (floatsAfter c (part f (getD (s .row) slot 0 * floatWidth) floatWidth) ∷ []) f
+      → z ≡ write wordWidth (m .row) (wordsAfter c (m .unit - 1) (part w (getD (s .row) slot 0 * wordWidth) wordWidth) ∷ []) w → Way
+  unfolding modifyPlan
+  way-accepted c m h e et ea ex ey ez = rw ea (passed areas37 _ _ _ _ _ _ _ h (accepted slots s l f w slot attribute _ c m e t x y z ex ey ez et))

@@ -29,12 +29,6 @@ fill-snoc s m e k r (u ∷ vs) v =
     let b : r + length (u ∷ vs) ≡ r + 1 + length vs = omega arith in
     rw (a, b) (fill-snoc (fillSlot s k r (slotOf m e u)) m e (k + 1) (r + 1) vs v)
 
--- the counts stay
-pub fill-counts : (s : State) (m : List (List Float)) (e : Shared) (k r : ℕ) (vs : List Vertex) → fillSlots s m e k r vs .counts ≡ s .counts
-unfolding fillSlots fillSlot
-fill-counts s m e k r [] = refl
-fill-counts s m e k r (v ∷ vs) = fill-counts (fillSlot s k r (slotOf m e v)) m e (k + 1) (r + 1) vs
-
 -- one more vertex writes one more row, of w numbers, behind those written from row n on
 pub rows-snoc : {A : Type 0} (f : Vertex → List A) (w n : ℕ) → ((v : Vertex) → length (f v) ≡ w) → (vs : List Vertex) (v : Vertex) (l : List A)
     → put (write w n (map f vs) l) ((n + length vs) * w) (f v) ≡ write w n (map f (vs ++ v ∷ [])) l

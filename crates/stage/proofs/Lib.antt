@@ -5,6 +5,7 @@ pub mod Changes
 pub mod Combining
 pub mod Culling
 pub mod Drawing
+pub mod Early
 pub mod Filling
 pub mod Judged
 pub mod Lighting
@@ -15,3 +16,4 @@ pub mod Settling
 pub mod Tabled
 pub mod Turning
 pub mod Verdicts
+pub mod Ways

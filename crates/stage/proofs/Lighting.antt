@@ -3,21 +3,22 @@ use mathlib.Core.Path.{_≡_, refl, _∙_}
 use Prim.Native.Nat.{ℕ, _≤_}
 use native.Mathlib.Omega.{arith}
 use mathlib.Core.Bool.{Bool, true, false}
-use mathlib.Core.List.{List, [], _∷_}
+use mathlib.Core.List.{List, []}
+use lib.Dec.{eqb}
 use lib.IntN.{ℤ}
 use lib.Ieee.{Float}
 use borrow.Author.Tests.{ne-eqb}
 use Rattle.layout.specs.declared.records.Light.{Light}
-use Rattle.layout.specs.Layout.{lightAt}
+use Rattle.layout.specs.Layout.{colourAt, lightAt}
 use Rattle.decide.proofs.Slots.{slot-above}
 use Rattle.stage.specs.declared.State.{State}
 use Rattle.stage.specs.declared.Lights.{Lights}
 use Rattle.stage.specs.declared.Lookat.{Lookat}
 use Rattle.stage.specs.declared.settings.Microcode.{Microcode}
-use Rattle.stage.specs.Plan.{Plan, refuse, does, unless, needs, nothing, carry, untouched}
+use Rattle.stage.specs.Plan.{Plan, refuse, does, unless, pick, needs, nothing, carry, untouched}
 use Rattle.stage.specs.Sound.{stateSound, sound}
-use Rattle.stage.specs.Lights.{lightIn, axisIn, lightsTo, lookatTo, slotPlan, lightPlan, lookatPlan, switched, microcodePlan}
-use Rattle.stage.specs.With.{Parts, partsOf}
+use Rattle.stage.specs.Lights.{lightIn, axisIn, lightsTo, lookatTo, ambientPlan, slotPlan, lightPlan, lookatPlan, switched, microcodePlan}
+use Rattle.stage.specs.With.{Parts, partsOf, withAmbient}
 use Rattle.stage.proofs.Cascade.{left}
 use Rattle.stage.proofs.Judged.{Ranges, ranges}
 
@@ -33,6 +34,18 @@ unless-same : (b : Bool) (n : ℕ) (vs : List ℕ) (p q : Plan) → (b ≡ true 
 unfolding unless
 unless-same true n vs p q f = f refl
 unless-same false n vs p q f = refl
+
+-- one of two plans that need bytes, as one plan
+needs-picked : (b : Bool) (s : State) (n m at : ℕ) (bytes : List ℕ) (l k : Lights) → pick b (needs n at bytes (lightsTo s l)) (needs m at bytes (lightsTo s k)) ≡ needs (pick b n m) at bytes (lightsTo s (pick b l k))
+unfolding pick
+needs-picked true s n m at bytes l k = refl
+needs-picked false s n m at bytes l k = refl
+
+-- a light needs 3 bytes or 11, and what the lights become goes by the same test
+pub light-plan : (s : State) (slot : ℕ) (bytes : List ℕ) (at : ℕ) → let b = eqb slot (s .lights .number) in
+    lightPlan s slot bytes at ≡ sound s (needs (pick b 3 11) at bytes (lightsTo s (pick b (withAmbient (s .lights) (colourAt bytes at)) (lightIn (s .lights) slot (lightAt bytes at)))))
+unfolding lightPlan ambientPlan slotPlan
+light-plan s slot bytes at = rw (needs-picked (eqb slot (s .lights .number)) s 3 11 at bytes)
 
 -- a slot that there is not stores no light, and no axis
 light-in-above : (l : Lights) (k : ℕ) (x : Light) → 8 ≤ k → lightIn l k x ≡ l

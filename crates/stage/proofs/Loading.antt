@@ -28,6 +28,8 @@ use Rattle.vertex.specs.Vertices.{floatsOf, wordsOf, verticesAt}
 use Rattle.vertex.proofs.Believe.{length-vertices}
 use Rattle.stage.specs.declared.State.{State}
 use Rattle.stage.specs.declared.Counts.{Counts}
+use Rattle.stage.specs.declared.Lights.{Lights}
+use Rattle.stage.specs.declared.Lookat.{Lookat}
 use Rattle.stage.specs.declared.Answer.{Answer}
 use Rattle.stage.specs.declared.Answer.the-variants.{Done, Told, BadState, BadLoad, ShortData, ShortArea, NoRoom}
 use Rattle.stage.proofs.Answer.{the-type}
@@ -35,10 +37,10 @@ use Rattle.stage.specs.declared.load.Settled.{Settled}
 use Rattle.stage.specs.declared.load.More.{More}
 use Rattle.stage.specs.declared.load.Rooms.{Rooms}
 use Rattle.stage.specs.Plan.{Edits, onlyIf, Plan, judge, more, pick, rowsOf, untouched, advance, Outcome, outcome, carry}
-use Rattle.stage.specs.Load.{settled, settledState, sharedBy, loadEdits, loadDone, loadPlan, vertexRow, LoadAreas, loadTables, loadLent, areasLoad, fogPair}
+use Rattle.stage.specs.Load.{settled, settledState, lightsThen, lookatThen, sharedBy, loadEdits, loadDone, loadPlan, vertexRow, LoadAreas, loadTables, loadLent, areasLoad, fogPair}
 use Rattle.stage.specs.Sound.{stateSound, limit}
 use Rattle.stage.specs.Rows.{fillSlots}
-use Rattle.stage.specs.With.{withCounts}
+use Rattle.stage.specs.With.{withCounts, withCombined, withLights, withLookat}
 use Rattle.stage.specs.Steps.{sixLent, roomsOf, moreBy, noMore, earlyAnswer, Ranged, TablesAre, RowsFit, RowsLaid}
 use Rattle.stage.proofs.Judged.{Ranges, ranges, and-right}
 use Rattle.stage.proofs.Tabled.{Numbered, fits-first, table-refused, table-passed}
@@ -339,8 +341,8 @@ module _ (s : State) (l : LoadAreas) (first count at : ℕ) (bytes : List ℕ) w
     way-done e o h = to-nine o (table-passed areasLoad s l 9 (tables (loadEdits d s vs)) (loadDone d s first vs) o full (numbered (loadEdits d s vs) (z .more) (z .roomed .rooms) nine) (z .is-full ∙ ap firstShort (sym nine)) e h)
 
     -- what the writing half asks for
-    pub load-ready : full ≡ 0 → Ranged s d × RowsFit (settledState d s) first count at bytes (l .floats) (l .words)
-    unfolding settledState roomsOf
+    pub load-ready : full ≡ 0 → Ranged s d × RowsFit s first count at bytes (l .floats) (l .words)
+    unfolding roomsOf
     load-ready e =
         let j = z .roomed .judged in
         let g = fits-rows (s .counts) d s (z .more) (z .roomed .rooms) count (length (l .floats)) (length (l .words)) (z .is-more) (ap (λ (x : Rooms). x .rows) (z .roomed .is-rooms)) (sym (z .is-full) ∙ e) in (
@@ -356,12 +358,13 @@ module _ (s : State) (l : LoadAreas) (first count at : ℕ) (bytes : List ℕ) w
 
 -- ---- what the writing half needs on its way
 
--- the rows' ask, of the state as the code has it
-pub rows-fit : (s s′ : State) (d : Settled) (first count at : ℕ) (b : List ℕ) (f : List Float) (w : List ℕ) → s′ ≡ settledState d s → RowsFit (settledState d s) first count at b f w → RowsFit s′ first count at b f w
-rows-fit s s′ d first count at b f w e h = subst (λ (x : State). RowsFit x first count at b f w) (sym e) h
+-- the state then, as the code sets it
+pub settled-then : (s : State) (d : Settled) {l : Lights} {o : Lookat} → l ≡ lightsThen d s → o ≡ lookatThen d s
+    → withLookat (withLights (withCombined s (d .combined) (s .defined)) l) o ≡ settledState d s
+unfolding settledState
+settled-then s d p q = λ i. withLookat (withLights (withCombined s (d .combined) (s .defined)) (p i)) (q i)
 
 -- the count of rows then
 pub rows-count : (s : State) (d : Settled) (e : Edits) (c : Counts) (a b l o : List Float) (f : List ℤ) (a′ b′ l′ o′ : List Float) (f′ : List ℤ) (first count at : ℕ) (bs : List ℕ) (x : List Float) (w : List ℕ)
-    → TablesAre d s e c a b l o f a′ b′ l′ o′ f′ → RowsFit (settledState d s) first count at bs x w → c .rows + count ≤ most
-unfolding settledState
+    → TablesAre d s e c a b l o f a′ b′ l′ o′ f′ → RowsFit s first count at bs x w → c .rows + count ≤ most
 rows-count s d e c a b l o f a′ b′ l′ o′ f′ first count at bs x w t h = subst (λ (n : ℕ). n + count ≤ most) (sym (ap (λ (y : Counts). y .rows) (t .counts))) (h .rows)

@@ -1,15 +1,18 @@
--- A matrix taken as projection or as top of the stack keeps the depth in its range. Assumes nothing.
+-- A matrix taken as projection or as top of the stack: the state then, and a depth in its range. Assumes nothing.
 use mathlib.Core.Path.{_≡_, refl, sym, subst}
-use Prim.Native.Nat.{ℕ, _+_, _≤_, _<_}
+use Prim.Native.Nat.{ℕ, _+_, _-_, _*_, _≤_, _<_}
 use native.Mathlib.Omega.{arith}
 use mathlib.Core.Bool.{Bool, true, false, _&&_, false≢true}
 use mathlib.Core.List.{List}
 use lib.Dec.{leb, ltb}
 use lib.Ieee.{Float}
 use borrow.Author.Tests.{leb-true, ltb-true}
-use Rattle.areas.specs.Area.{room}
-use Rattle.decide.specs.Stack.{pushed, popped}
+use Rattle.areas.specs.Area.{room, put}
+use Rattle.areas.specs.Widths.{matrixWidth}
+use Rattle.matrix.specs.Math.{rows, laid}
+use Rattle.decide.specs.Stack.{made, pushed, popped}
 use Rattle.stage.specs.declared.State.{State}
+use Rattle.stage.specs.With.{withModel, withProjection}
 use Rattle.stage.specs.Plan.{pick}
 use Rattle.stage.specs.Matrices.{turned}
 
@@ -17,7 +20,7 @@ use Rattle.stage.specs.Matrices.{turned}
 abbrev pub InStack : ℕ → Type 0
 InStack d = (1 ≤ d) × (d ≤ 32)
 
-pub pushed-in : (push : Bool) (d : ℕ) → InStack d → InStack (pushed push d)
+pushed-in : (push : Bool) (d : ℕ) → InStack d → InStack (pushed push d)
 unfolding pushed pick
 pushed-in push d h = go (push && ltb d 32) refl
   where
@@ -29,10 +32,21 @@ pushed-in push d h = go (push && ltb d 32) refl
     go true e = let l : d < 32 = ltb-true d 32 (right push (ltb d 32) e) in omega arith
     go false e = h
 
-pub turned-in : (push load projection : Bool) (s next : State) (m : List (List Float)) → next ≡ turned push load projection s m → InStack (s .depth) → InStack (next .depth)
+-- the depth of a matrix taken, as the code says it
+pub turned-in : (push projecting : Bool) (d r : ℕ) → r ≡ pick projecting d (pushed push d) → InStack d → InStack r
+unfolding pick
+turned-in push true d r e h = subst InStack (sym e) h
+turned-in push false d r e h = subst InStack (sym e) (pushed-in push d h)
+
+-- a matrix taken: its depth, projection and stack make the state
+pub turned-is : (push load projecting : Bool) (s : State) (m : List (List Float)) (d : ℕ) (p k : List Float)
+    → d ≡ pick projecting (s .depth) (pushed push (s .depth))
+    → p ≡ pick projecting (laid (made load m (rows (s .projection) 0))) (s .projection)
+    → k ≡ pick projecting (s .stack) (put (s .stack) (matrixWidth * (pushed push (s .depth) - 1)) (laid (made load m (rows (s .stack) (matrixWidth * (s .depth - 1))))))
+    → withModel (withProjection s p) d k ≡ turned push load projecting s m
 unfolding turned pick
-turned-in push load true s next m e h = subst (λ (t : State). InStack (t .depth)) (sym e) h
-turned-in push load false s next m e h = subst (λ (t : State). InStack (t .depth)) (sym e) (pushed-in push (s .depth) h)
+turned-is push load true s m d p k e f g = rw (e, f, g)
+turned-is push load false s m d p k e f g = rw (e, f, g)
 
 -- what refusal 8 lets through: the entries in use have room
 pub in-room : (w n m len : ℕ) (r : Bool) → m ≡ room w len → r ≡ leb (n + 0) m → leb (n + 0) m ≡ true → n ≤ room w len

@@ -1,6 +1,6 @@
 -- What private steps of the commands say of themselves. None of it is cited by a command's contract or by a theorem: a reader of the promises need
 -- not read it. Definitions only.
-use Prim.Native.Nat.{ℕ, _+_, _*_, _≤_, min}
+use Prim.Native.Nat.{ℕ, _+_, _*_, _%_, _≤_, min}
 use mathlib.Core.Bool.{Bool, true, false, _&&_}
 use mathlib.Core.Path.{_≡_}
 use mathlib.Core.List.{List, [], _∷_, map}
@@ -13,6 +13,8 @@ use Rattle.areas.specs.Widths.{most, matrixWidth, scaleWidth, lightWidth, looka
 use Rattle.layout.specs.declared.records.Vertex.{Vertex}
 use Rattle.decide.specs.Judge.{Lent}
 use Rattle.decide.specs.Steps.{firstShort}
+use Rattle.decide.specs.declared.append.Append.{Append}
+use Rattle.decide.specs.declared.append.Append.the-variants as append
 use Rattle.vertex.specs.declared.Shared.{Shared}
 use Rattle.vertex.specs.Vertices.{floatsOf, wordsOf}
 use Rattle.change.specs.declared.judge.Slot.{Slot}
@@ -32,7 +34,28 @@ use Rattle.stage.specs.declared.load.More.{More}
 use Rattle.stage.specs.declared.load.Rooms.{Rooms}
 use Rattle.stage.specs.Plan.{Table, Row, Edits, pick, counted, matrixArea, scaleArea, lightArea, lookatArea, fogArea, afterIn}
 use Rattle.stage.specs.Sound.{stateSound, limit}
+use Rattle.stage.specs.declared.draw.Corners.{Corners}
+use Rattle.triangle.specs.declared.slot.Corner.{Corner}
+use Rattle.triangle.specs.Steps.{cornerAt}
 use Rattle.stage.specs.Rows.{fillSlots}
+
+-- ---- matrices and viewport
+
+-- the answer of a command that reads need bytes, and is lent one table with so many entries in use and such a room, that is due before anything is
+-- made: Done where none is
+unfoldable pub earlyIn : State → ℕ → ℕ → ℕ → ℕ → ℕ → ℕ → Answer
+earlyIn s len at need number used room =
+    pick (stateSound s)
+    (pick (leb (at + need) len)
+    (pick (leb (used + 0) room) Done (ShortArea number))
+    (ShortData need))
+    BadState
+
+-- a table's count by what became of an entry
+abbrev pub countAfter : Append → ℕ → ℕ
+countAfter append.Kept n = n
+countAfter append.Grew n = n + 1
+countAfter append.Full n = n
 
 -- ---- load
 
@@ -154,6 +177,12 @@ modifyAnswer slot attribute (Short t) = ShortArea t
 modifyAnswer slot attribute (Full t) = NoRoom t
 
 -- ---- draw
+
+-- the corners of three slots, of so many that there are, by the columns of rows and of marks; a slot beyond is read as the rest, and is not known
+abbrev pub cornersAt : ℕ → List ℕ → List Bool → ℕ → ℕ → ℕ → Corners
+cornersAt slots row ever a b c =
+    let at : ℕ → Corner = λ i. cornerAt slots i (getD ever (i % slots) false) (getD row (i % slots) 0) in
+    record { p = at a; q = at b; s = at c }
 
 -- the answer that a verdict stands for
 abbrev pub drawAnswer : Verdict → Answer

@@ -5,13 +5,14 @@ ghost use Rattle.stage.specs.Plan.{outcome, carry, nothing, pick};
 ghost use Rattle.stage.specs.Sound.{limit};
 ghost use Rattle.stage.specs.declared.Answer.the-variants.{NotLoaded, NoCode};
 ghost use Rattle.stage.specs.Draw.{cullPlan, depthPlan, drawMeans};
-ghost use Rattle.stage.specs.Steps.{drawAnswer};
+ghost use Rattle.stage.specs.Steps.{drawAnswer, cornersAt};
 use crate::Answer;
 use crate::Answered;
 use crate::State;
 use areas::widths::RUN_WIDTH;
 use triangle::run;
 use triangle::slot;
+use triangle::slot::Corner;
 use triangle::verdict;
 use triangle::verdict::Verdict;
 
@@ -37,6 +38,33 @@ fn answer_of(v: Verdict) -> Answer
         Verdict::Short(table) => Answer::ShortArea(table),
         Verdict::Full(table) => Answer::NoRoom(table),
         Verdict::Record(more, start, count) => Answer::Done,
+    }
+}
+
+// The corners of three slots.
+pub struct Corners {
+    pub p: Corner,
+    pub q: Corner,
+    pub s: Corner,
+}
+
+// The corners of the slots a, b and c. It calls itself so that it is never taken into its caller: then it reads the
+// caller's columns where they stand, and else a copy of them is made first.
+fn corners_at(row: &[u32; 256], ever: &[bool; 256], a: u32, b: u32, c: u32) -> Corners
+    ensures { λ r. ⌜ r ≡ cornersAt 256 (now (row .entry)) (now (ever .entry)) a b c ⌝ }
+{
+    let i = (a % 256) as usize;
+    if 256 <= a {
+        let mut t = corners_at(row, ever, a / 256, b, c);
+        t.p = slot::corner_at(256, a, ever[i], row[i]);
+        return t;
+    }
+    let j = (b % 256) as usize;
+    let k = (c % 256) as usize;
+    Corners {
+        p: slot::corner_at(256, a, ever[i], row[i]),
+        q: slot::corner_at(256, b, ever[j], row[j]),
+        s: slot::corner_at(256, c, ever[k], row[k]),
     }
 }
 
@@ -131,12 +159,10 @@ impl State {
         let row = self.row;
         let ever = self.ever;
         let mut drawn = self.drawn;
-        let i = (a % 256) as usize;
-        let j = (b % 256) as usize;
-        let k = (c % 256) as usize;
-        let p = slot::corner_at(256, a, ever[i], row[i]);
-        let q = slot::corner_at(256, b, ever[j], row[j]);
-        let s = slot::corner_at(256, c, ever[k], row[k]);
+        let at = corners_at(&row, &ever, a, b, c);
+        let p = at.p;
+        let q = at.q;
+        let s = at.s;
         let n = self.counts.indices;
         let m = self.counts.runs;
         let t = verdict::tables_of(self.counts.rows, n, m, indices.len(), runs.len());
@@ -146,9 +172,9 @@ impl State {
         let last = run::last_run(runs, m, set);
         let v = verdict::judge(self.sound(), sides.both, p, q, s, t, last);
         if let Verdict::Record(more, start, count) = v {
-            drawn[i] = true;
-            drawn[j] = true;
-            drawn[k] = true;
+            drawn[(a % 256) as usize] = true;
+            drawn[(b % 256) as usize] = true;
+            drawn[(c % 256) as usize] = true;
             slot::put_corners(indices, n as usize, sides.swap, p.row, q.row, s.row);
             run::put_run(
                 runs,
@@ -159,10 +185,10 @@ impl State {
             );
             let indexed = n + 3;
             let recorded = m + more;
-            self.drawn = drawn;
             self.counts.indices = indexed;
             self.counts.runs = recorded;
         }
+        self.drawn = drawn;
         Answered {
             state: self,
             answer: answer_of(v),

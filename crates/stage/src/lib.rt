@@ -3,7 +3,6 @@ pub mod draw;
 pub mod load;
 pub mod matrices;
 pub mod modify;
-pub mod rows;
 pub mod settings;
 
 // How many entries of each table are in use, tables 1 to 9.
@@ -50,37 +49,38 @@ pub struct Lookat {
     pub place: u32,
 }
 
-// All that the commands keep between them. A value under a cleared mark is 0, so that a state is determined.
+// All that the commands keep between them. A value under a cleared mark is 0, so that a state is determined. In this
+// order what a change of a slot leaves alone lies in one piece, and costs no copy (docs/SPEED.md).
 pub struct State {
     pub opened: bool,
-    // 0 is F3dex2, 1 is F3dex2NoN.
-    pub microcode: u8,
-    pub geometry: u32,
-    pub fogmul: i16,
-    pub fogoff: i16,
     // The model stack: `depth` matrices of sixteen numbers in use, the last of them the top.
     pub depth: u32,
-    pub stack: [f32; 512],
-    pub projection: [f32; 16],
-    // The combined matrix, and whether it is defined.
-    pub combined: [f32; 16],
-    pub defined: bool,
-    pub viewport: [f32; 6],
-    pub texture: Texture,
     pub lights: Lights,
     pub lookat: Lookat,
-    pub counts: Counts,
-    // The place of the unit scale entry plus 1, or 0 where there is none yet.
-    pub unit: u32,
-    // The slots: the row of each, whether it was loaded since opening, is loaded, was drawn since its row was made, and
-    // its clip code and screen z, each with a mark that says whether there is one.
-    pub row: [u32; 256],
+    pub stack: [f32; 512],
+    // 0 is F3dex2, 1 is F3dex2NoN.
+    pub microcode: u8,
+    pub fogmul: i16,
+    pub fogoff: i16,
+    // Whether the combined matrix is defined.
+    pub defined: bool,
+    pub geometry: u32,
+    pub texture: Texture,
+    pub viewport: [f32; 6],
+    pub projection: [f32; 16],
+    pub combined: [f32; 16],
+    // The slots: whether each was loaded since opening, is loaded, has a clip code, its clip code, and whether it has a
+    // screen z; and below, whether it was drawn since its row was made, its row, and its screen z.
     pub ever: [bool; 256],
     pub loaded: [bool; 256],
-    pub drawn: [bool; 256],
     pub coded: [bool; 256],
     pub code: [u8; 256],
     pub deep: [bool; 256],
+    // The place of the unit scale entry plus 1, or 0 where there is none yet.
+    pub unit: u32,
+    pub counts: Counts,
+    pub drawn: [bool; 256],
+    pub row: [u32; 256],
     pub z: [f64; 256],
 }
 

@@ -5,11 +5,12 @@ ghost use Prim.Native.Nat.{_+_, _*_, _≤_, min};
 ghost use lib.ListN.{length};
 ghost use Rattle.areas.specs.Area.{entries};
 ghost use Rattle.areas.specs.Widths.{matrixWidth, scaleWidth, fogWidth};
+ghost use Rattle.matrix.specs.Math.{rows, laid, times};
 ghost use Rattle.decide.specs.Family.{familyOf};
 ghost use Rattle.decide.specs.Steps.{firstShort};
 ghost use Rattle.stage.specs.Plan.{outcome, pick};
 ghost use Rattle.stage.specs.With.{foldedLights, foldedLookat};
-ghost use Rattle.stage.specs.Load.{settled, combinedNow, sharedBy, settledState, loadEdits, loadAreas, loadMeans};
+ghost use Rattle.stage.specs.Load.{settled, sharedBy, loadEdits, loadAreas, loadMeans};
 ghost use Rattle.stage.specs.Steps.{Ranged, TablesAre, roomsOf, sixLent, moreBy, noMore, earlyAnswer};
 use crate::Answer;
 use crate::Answered;
@@ -177,25 +178,40 @@ fn lookat_then(lookat: Lookat, due: bool, m: [f32; 16], n: u32) -> Lookat
     l
 }
 
-impl State {
-    // The combined matrix in force: an undefined one is recomputed.
-    fn combined_now(self) -> [f32; 16]
-        requires { ⌜ (1 ≤ self .depth) × (self .depth ≤ 32) ⌝ }
-        ensures { λ r. ⌜ r ≡ combinedNow self ⌝ }
-    {
-        let m = self.combined;
-        if self.defined { m } else { self.product() }
+// The combined matrix in force: an undefined one is recomputed.
+fn combined_now(
+    defined: bool,
+    combined: [f32; 16],
+    top: [[f32; 4]; 4],
+    projection: [f32; 16],
+) -> [f32; 16]
+    ensures { λ r. ⌜ r ≡ pick defined combined (laid (times top (rows projection 0))) ⌝ }
+{
+    if defined {
+        combined
+    } else {
+        crate::matrices::product_of(top, projection)
     }
+}
 
+impl State {
     // The decisions of a load, each once. Asks for what has been judged by then.
-    fn settled_by(self, matrices: &[f32], scales: &[f32], fogs: &[i16]) -> Settled
-        requires { ⌜ (1 ≤ self .depth) × (self .depth ≤ 32) ⌝ }
+    fn settled_by(
+        self,
+        stack: &[f32; 512],
+        matrices: &[f32],
+        scales: &[f32],
+        fogs: &[i16],
+    ) -> Settled
+        requires { ⌜ (1 ≤ self .depth) × (self .depth ≤ 32) × (now stack ≡ self .stack) ⌝ }
         ensures { λ r. ⌜ r ≡ settled (familyOf (self .microcode)) self (entries matrixWidth (self .counts .matrices) (now (matrices .entry))) (entries scaleWidth (self .counts .scales) (now (scales .entry))) (entries fogWidth (self .counts .fogs) (now (fogs .entry))) ⌝ }
     {
         let family = decide::family::family_of(self.microcode);
-        let stack = self.stack;
-        let model = matrix::math::to_flat(decide::stack::top_of(stack, self.depth));
-        let combined = self.combined_now();
+        let top = decide::stack::top_at(stack, self.depth);
+        let model = matrix::math::to_flat(top);
+        let old = self.combined;
+        let p = self.projection;
+        let combined = combined_now(self.defined, old, top, p);
         let entry = fold::scales::scales_of(self.texture.sc, self.texture.tc);
         let lit = decide::geometry::is_lit(family, self.geometry);
         let texgen = decide::geometry::texgen_mode(family, self.geometry);
@@ -225,22 +241,6 @@ impl State {
             fogat: place,
             newfog: fog,
         }
-    }
-
-    // The state once the tables are settled, but for its counts.
-    fn settled_state(mut self, d: Settled) -> State
-        ensures { λ r. ⌜ r ≡ settledState d self ⌝ }
-    {
-        let combined = d.combined;
-        let model = d.model;
-        let lights = self.lights;
-        let lookat = self.lookat;
-        let l = lights_then(lights, d.newlights, model, self.counts.lights);
-        let o = lookat_then(lookat, d.newlookat, model, self.counts.lookats);
-        self.combined = combined;
-        self.lights = l;
-        self.lookat = o;
-        self
     }
 
     // What every row of the load shares. Asks for counts in their ranges.
@@ -377,45 +377,49 @@ impl State {
         ensures { λ r. ⌜ outcome r (loadAreas (now (matrices .exit)) (now (scales .exit)) (now (lights .exit)) (now (lookats .exit)) (now (fogs .exit)) (now (floats .exit)) (now (words .exit))) ≡ loadMeans self first count (now («data» .entry)) at (loadAreas (now (matrices .entry)) (now (scales .entry)) (now (lights .entry)) (now (lookats .entry)) (now (fogs .entry)) (now (floats .entry)) (now (words .entry))) ⌝ }
     {
         let rooms = rooms_of(matrices, scales, lights, lookats, fogs, floats, words);
-        let early = self.early(first, count, data.len(), at, rooms);
-        match early {
-            Answer::Done => {}
-            _ => {
-                return Answered {
-                    state: self,
-                    answer: early,
-                };
+        let mut answer = self.early(first, count, data.len(), at, rooms);
+        if let Answer::Done = answer {
+            let stack = self.stack;
+            let d = self.settled_by(&stack, matrices, scales, fogs);
+            let full = short_table(self.counts, self.more_by(d, count), rooms);
+            if full != 0 {
+                answer = Answer::NoRoom(full);
+            } else {
+                answer = Answer::Told(decide::number::if_else(self.defined, 0, 1));
+                let e = self.shared_by(d);
+                let n = self.counts.rows as usize;
+                let mut counts = self.tables_written(d, matrices, scales, lights, lookats, fogs);
+                counts.rows = counts.rows + count;
+                let combined = d.combined;
+                let model = d.model;
+                let m = matrix::math::from_flat(combined);
+                let l = lights_then(self.lights, d.newlights, model, self.counts.lights);
+                let o = lookat_then(self.lookat, d.newlookat, model, self.counts.lookats);
+                self.combined = combined;
+                self.lights = l;
+                self.lookat = o;
+                for i in 0..(count as usize) {
+                    let row = n + i;
+                    let v = layout::vertex(data, at + 16 * i);
+                    vertex::store_floats(floats, row * vertex::FLOATS, v);
+                    vertex::store_words(words, row * vertex::WORDS, e, v);
+                    let s = vertex::slot_of(m, e, v);
+                    let k = (first as usize) + i;
+                    self.row[k] = row as u32;
+                    self.ever[k] = true;
+                    self.loaded[k] = true;
+                    self.drawn[k] = false;
+                    self.coded[k] = s.coded;
+                    self.code[k] = s.code;
+                    self.deep[k] = s.deep;
+                    self.z[k] = s.z;
+                }
+                self.counts = counts;
             }
         }
-        let d = self.settled_by(matrices, scales, fogs);
-        let full = short_table(self.counts, self.more_by(d, count), rooms);
-        if full != 0 {
-            return Answered {
-                state: self,
-                answer: Answer::NoRoom(full),
-            };
-        }
-        let notice = decide::number::if_else(self.defined, 0, 1);
-        let e = self.shared_by(d);
-        let combined = d.combined;
-        let m = matrix::math::from_flat(combined);
-        let mut counts = self.tables_written(d, matrices, scales, lights, lookats, fogs);
-        let s = self.settled_state(d);
-        let mut t = s.load_rows(
-            first as usize,
-            count as usize,
-            data,
-            at,
-            m,
-            e,
-            floats,
-            words,
-        );
-        counts.rows = counts.rows + count;
-        t.counts = counts;
         Answered {
-            state: t,
-            answer: Answer::Told(notice),
+            state: self,
+            answer: answer,
         }
     }
 }

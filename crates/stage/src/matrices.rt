@@ -1,16 +1,18 @@
 // Opening, the matrix stack, the viewport and the geometry mode.
 ghost use mathlib.Core.Path.{_≡_};
-ghost use Prim.Native.Nat.{_+_, _-_, _*_, _≤_, max};
-ghost use lib.ListN.{length};
+ghost use Prim.Native.Nat.{_-_, _*_, _≤_};
 ghost use mathlib.Core.Bool.{false};
-ghost use lib.Dec.{leb};
-ghost use Rattle.areas.specs.Area.{room};
-ghost use Rattle.areas.specs.Widths.{most, matrixWidth, viewportWidth};
+ghost use Rattle.areas.specs.Area.{put};
+ghost use Rattle.areas.specs.Widths.{most, matrixWidth};
+ghost use Rattle.matrix.specs.Math.{rows, laid, times};
 ghost use Rattle.decide.specs.Family.{familyOf};
-ghost use Rattle.stage.specs.Plan.{outcome, carry, nothing, matrixArea, viewportArea, tableIn};
+ghost use Rattle.decide.specs.Stack.{made, pushed};
+ghost use Rattle.stage.specs.declared.Answer.the-variants.{Done, BadState};
+ghost use Rattle.stage.specs.Plan.{outcome, carry, nothing, pick, matrixArea, viewportArea, tableIn};
 ghost use Rattle.stage.specs.Sound.{all, countTests, stateSound};
 ghost use Rattle.stage.specs.Opening.{blank, opened, openingPlan, areas12};
-ghost use Rattle.stage.specs.Matrices.{area1, area2, product, combine, turned, matrixPlan, forcePlan, popPlan, viewing, viewportPlan, geometryPlan};
+ghost use Rattle.stage.specs.Matrices.{area1, area2, matrixPlan, forcePlan, popPlan, viewportPlan, geometryPlan};
+ghost use Rattle.stage.specs.Steps.{earlyIn, countAfter};
 use crate::Answer;
 use crate::Answered;
 use crate::Counts;
@@ -101,6 +103,17 @@ fn opened_state() -> State
     s
 }
 
+// The answer of a command that only an unsound state refuses.
+pub(crate) fn done_if(sound: bool) -> Answer
+    ensures { λ r. ⌜ r ≡ pick sound Done BadState ⌝ }
+{
+    if sound {
+        Answer::Done
+    } else {
+        Answer::BadState
+    }
+}
+
 // Whether the counts are in their ranges.
 fn sound_counts(c: Counts) -> bool
     ensures { λ r. ⌜ r ≡ all (countTests c) ⌝ }
@@ -116,6 +129,61 @@ fn sound_counts(c: Counts) -> bool
         & (c.rows <= MOST)
         & (c.indices <= MOST)
         & (c.runs <= MOST)
+}
+
+// A matrix taken: the depth and the projection then.
+pub struct Turned {
+    pub depth: u32,
+    pub projection: [f32; 16],
+}
+
+// The data m taken as projection, or as top of the stack. Asks for a depth in its range.
+fn turn(
+    push: bool,
+    load: bool,
+    projecting: bool,
+    m: [[f32; 4]; 4],
+    stack: &mut [f32; 512],
+    projection: [f32; 16],
+    depth: u32,
+) -> Turned
+    requires { ⌜ (1 ≤ depth) × (depth ≤ 32) ⌝ }
+    ensures { λ r. ⌜ (r .depth ≡ pick projecting depth (pushed push depth)) × (r .projection ≡ pick projecting (laid (made load m (rows projection 0))) projection) × (now (stack .exit) ≡ pick projecting (now (stack .entry)) (put (now (stack .entry)) (matrixWidth * (pushed push depth - 1)) (laid (made load m (rows (now (stack .entry)) (matrixWidth * (depth - 1))))))) ⌝ }
+{
+    if projecting {
+        let made = decide::stack::made_of(load, m, matrix::math::from_flat(projection));
+        return Turned {
+            depth: depth,
+            projection: matrix::math::to_flat(made),
+        };
+    }
+    let made = decide::stack::made_of(load, m, decide::stack::top_at(stack, depth));
+    let d = decide::stack::pushed_depth(push, depth);
+    let flat = matrix::math::to_flat(made);
+    areas::put_f32(stack, 16 * ((d - 1) as usize), &flat);
+    Turned {
+        depth: d,
+        projection: projection,
+    }
+}
+
+// A top of the stack times a projection, flat.
+pub(crate) fn product_of(top: [[f32; 4]; 4], projection: [f32; 16]) -> [f32; 16]
+    ensures { λ r. ⌜ r ≡ laid (times top (rows projection 0)) ⌝ }
+{
+    matrix::math::to_flat(matrix::math::mul4(top, matrix::math::from_flat(projection)))
+}
+
+// A table's count once an entry was appended, or kept, or had no room. Asks for a count that does not wrap.
+fn count_after(how: Append, n: u32) -> u32
+    requires { ⌜ n ≤ most ⌝ }
+    ensures { λ r. ⌜ r ≡ countAfter how n ⌝ }
+{
+    match how {
+        Append::Kept => n,
+        Append::Full => n,
+        Append::Grew => n + 1,
+    }
 }
 
 impl State {
@@ -159,72 +227,29 @@ impl State {
         }
     }
 
-    // The state with the data m taken as projection, or as top of the stack. Asks for a depth in its range.
-    fn turned_by(mut self, push: bool, load: bool, projection: bool, m: [[f32; 4]; 4]) -> State
-        requires { ⌜ (1 ≤ self .depth) × (self .depth ≤ 32) ⌝ }
-        ensures { λ r. ⌜ r ≡ turned push load projection self m ⌝ }
+    // The answer of a command that reads `need` bytes and is lent one table, with so many entries in use and such a room,
+    // that is due before anything is made: Done where none is.
+    fn early_in(
+        self,
+        len: usize,
+        at: usize,
+        need: u32,
+        table: u32,
+        used: u32,
+        room: usize,
+    ) -> Answer
+        ensures { λ r. ⌜ r ≡ earlyIn self len at need table used room ⌝ }
     {
-        if projection {
-            let p = self.projection;
-            let made = decide::stack::made_of(load, m, matrix::math::from_flat(p));
-            let flat = matrix::math::to_flat(made);
-            self.projection = flat;
-            return self;
+        if !self.sound() {
+            return Answer::BadState;
         }
-        let mut stack = self.stack;
-        let made = decide::stack::made_of(load, m, decide::stack::top_of(stack, self.depth));
-        let d = decide::stack::pushed_depth(push, self.depth);
-        let flat = matrix::math::to_flat(made);
-        areas::put_f32(&mut stack, 16 * ((d - 1) as usize), &flat);
-        self.depth = d;
-        self.stack = stack;
-        self
-    }
-
-    // The model top times projection. Asks for a depth in its range.
-    pub(crate) fn product(self) -> [f32; 16]
-        requires { ⌜ (1 ≤ self .depth) × (self .depth ≤ 32) ⌝ }
-        ensures { λ r. ⌜ r ≡ product self ⌝ }
-    {
-        let stack = self.stack;
-        let p = self.projection;
-        matrix::math::to_flat(matrix::math::mul4(
-            decide::stack::top_of(stack, self.depth),
-            matrix::math::from_flat(p),
-        ))
-    }
-
-    // `next` with the combined matrix m, or the state as given where table 1 has no room for it. Asks for what has been
-    // judged by then: the count, and that the area holds what is in use.
-    fn combined_to(self, next: State, m: [f32; 16], matrices: &mut [f32]) -> Answered
-        requires { ⌜ (self .counts .matrices ≤ most) × (self .counts .matrices ≤ room matrixWidth (length (now matrices))) ⌝ }
-        ensures { λ r. ⌜ outcome r (now (matrices .exit)) ≡ carry area1 (combine next (tableIn matrixArea (self .counts) (now (matrices .entry))) m) self (now (matrices .entry)) ⌝ }
-    {
-        let mut counts = self.counts;
-        let n = counts.matrices;
-        let mut s = next;
-        s.combined = m;
-        s.defined = true;
-        s.counts = counts;
-        let how = decide::append::append_f32(matrices, MATRIX_WIDTH, n, &m);
-        match how {
-            Append::Kept => Answered {
-                state: s,
-                answer: Answer::Done,
-            },
-            Append::Full => Answered {
-                state: self,
-                answer: Answer::NoRoom(1),
-            },
-            Append::Grew => {
-                counts.matrices = n + 1;
-                s.counts = counts;
-                Answered {
-                    state: s,
-                    answer: Answer::Done,
-                }
-            }
+        if !decide::judge::reaches(len, at, need as usize) {
+            return Answer::ShortData(need);
         }
+        if !decide::judge::holds(used, 0, room) {
+            return Answer::ShortArea(table);
+        }
+        Answer::Done
     }
 
     // Matrix: flags push 1, load 2, projection 4, after the exclusive-or with 1 of the command word.
@@ -232,126 +257,96 @@ impl State {
         ensures { λ r. ⌜ outcome r (now (matrices .exit)) ≡ carry area1 (matrixPlan (familyOf (self .microcode)) self (tableIn matrixArea (self .counts) (now (matrices .entry))) flags (now («data» .entry)) at) self (now (matrices .entry)) ⌝ }
     {
         let family = decide::family::family_of(self.microcode);
-        if !self.sound() {
-            return Answered {
-                state: self,
-                answer: Answer::BadState,
-            };
+        let n = self.counts.matrices;
+        let room = areas::room_of(MATRIX_WIDTH, matrices.len());
+        let mut answer = self.early_in(data.len(), at, 64, 1, n, room);
+        let old = self.stack;
+        let mut stack = self.stack;
+        if let Answer::Done = answer {
+            let m = layout::matrix(data, at);
+            let f = flags as u32;
+            let push = decide::judge::has_flag(family.push, f);
+            let load = decide::judge::has_flag(family.load, f);
+            let projecting = decide::judge::has_flag(family.projection, f);
+            let p = self.projection;
+            let t = turn(push, load, projecting, m, &mut stack, p, self.depth);
+            let projection = t.projection;
+            let product = product_of(decide::stack::top_at(&stack, t.depth), projection);
+            let how = decide::append::append_f32(matrices, MATRIX_WIDTH, n, &product);
+            if let Append::Full = how {
+                answer = Answer::NoRoom(1);
+                stack = old;
+            } else {
+                self.depth = t.depth;
+                self.projection = projection;
+                self.combined = product;
+                self.defined = true;
+                let used = count_after(how, n);
+                self.counts.matrices = used;
+            }
         }
-        if !decide::judge::reaches(data.len(), at, 64) {
-            return Answered {
-                state: self,
-                answer: Answer::ShortData(64),
-            };
+        self.stack = stack;
+        Answered {
+            state: self,
+            answer: answer,
         }
-        if !decide::judge::holds(
-            self.counts.matrices,
-            0,
-            areas::room_of(MATRIX_WIDTH, matrices.len()),
-        ) {
-            return Answered {
-                state: self,
-                answer: Answer::ShortArea(1),
-            };
-        }
-        let m = layout::matrix(data, at);
-        let f = flags as u32;
-        let push = decide::judge::has_flag(family.push, f);
-        let load = decide::judge::has_flag(family.load, f);
-        let projection = decide::judge::has_flag(family.projection, f);
-        let next = self.turned_by(push, load, projection, m);
-        self.combined_to(next, next.product(), matrices)
     }
 
     // Forced matrix: 64 bytes become the combined matrix; the stack and the projection stay.
     pub fn force_matrix(mut self, data: &[u8], at: usize, matrices: &mut [f32]) -> Answered
         ensures { λ r. ⌜ outcome r (now (matrices .exit)) ≡ carry area1 (forcePlan self (tableIn matrixArea (self .counts) (now (matrices .entry))) (now («data» .entry)) at) self (now (matrices .entry)) ⌝ }
     {
-        if !self.sound() {
-            return Answered {
-                state: self,
-                answer: Answer::BadState,
-            };
+        let n = self.counts.matrices;
+        let room = areas::room_of(MATRIX_WIDTH, matrices.len());
+        let mut answer = self.early_in(data.len(), at, 64, 1, n, room);
+        if let Answer::Done = answer {
+            let m = matrix::math::to_flat(layout::matrix(data, at));
+            let how = decide::append::append_f32(matrices, MATRIX_WIDTH, n, &m);
+            if let Append::Full = how {
+                answer = Answer::NoRoom(1);
+            } else {
+                self.combined = m;
+                self.defined = true;
+                let used = count_after(how, n);
+                self.counts.matrices = used;
+            }
         }
-        if !decide::judge::reaches(data.len(), at, 64) {
-            return Answered {
-                state: self,
-                answer: Answer::ShortData(64),
-            };
+        Answered {
+            state: self,
+            answer: answer,
         }
-        if !decide::judge::holds(
-            self.counts.matrices,
-            0,
-            areas::room_of(MATRIX_WIDTH, matrices.len()),
-        ) {
-            return Answered {
-                state: self,
-                answer: Answer::ShortArea(1),
-            };
-        }
-        let m = matrix::math::to_flat(layout::matrix(data, at));
-        self.combined_to(self, m, matrices)
     }
 
     // Pop: any count in one step.
     pub fn pop_matrix(mut self, count: u32, matrices: &mut [f32]) -> Answered
         ensures { λ r. ⌜ outcome r (now (matrices .exit)) ≡ carry area1 (popPlan self (tableIn matrixArea (self .counts) (now (matrices .entry))) count) self (now (matrices .entry)) ⌝ }
     {
-        if !self.sound() {
-            return Answered {
-                state: self,
-                answer: Answer::BadState,
-            };
-        }
-        if !decide::judge::holds(
-            self.counts.matrices,
-            0,
-            areas::room_of(MATRIX_WIDTH, matrices.len()),
-        ) {
-            return Answered {
-                state: self,
-                answer: Answer::ShortArea(1),
-            };
-        }
+        let n = self.counts.matrices;
+        let room = areas::room_of(MATRIX_WIDTH, matrices.len());
+        let mut answer = self.early_in(0, 0, 0, 1, n, room);
         let d = decide::stack::popped_depth(count, self.depth);
-        if d == self.depth {
-            return Answered {
-                state: self,
-                answer: Answer::Done,
-            };
+        let stack = self.stack;
+        let p = self.projection;
+        let mut due = false;
+        if let Answer::Done = answer {
+            due = d != self.depth;
         }
-        let mut next = self;
-        next.depth = d;
-        self.combined_to(next, next.product(), matrices)
-    }
-
-    // The state with the viewport v, or as given where table 2 has no room for it. Asks for what has been judged by then.
-    fn viewport_to(self, v: [f32; 6], viewports: &mut [f32]) -> Answered
-        requires { ⌜ (self .counts .viewports ≤ most) × (self .counts .viewports ≤ room viewportWidth (length (now viewports))) ⌝ }
-        ensures { λ r. ⌜ outcome r (now (viewports .exit)) ≡ carry area2 (viewing self (tableIn viewportArea (self .counts) (now (viewports .entry))) v) self (now (viewports .entry)) ⌝ }
-    {
-        let mut counts = self.counts;
-        let n = counts.viewports;
-        let mut s = self;
-        s.viewport = v;
-        let how = decide::append::append_f32(viewports, VIEWPORT_WIDTH, n, &v);
-        match how {
-            Append::Kept => Answered {
-                state: s,
-                answer: Answer::Done,
-            },
-            Append::Full => Answered {
-                state: self,
-                answer: Answer::NoRoom(2),
-            },
-            Append::Grew => {
-                counts.viewports = n + 1;
-                s.counts = counts;
-                Answered {
-                    state: s,
-                    answer: Answer::Done,
-                }
+        if due {
+            let product = product_of(decide::stack::top_at(&stack, d), p);
+            let how = decide::append::append_f32(matrices, MATRIX_WIDTH, n, &product);
+            if let Append::Full = how {
+                answer = Answer::NoRoom(1);
+            } else {
+                self.depth = d;
+                self.combined = product;
+                self.defined = true;
+                let used = count_after(how, n);
+                self.counts.matrices = used;
             }
+        }
+        Answered {
+            state: self,
+            answer: answer,
         }
     }
 
@@ -359,40 +354,34 @@ impl State {
     pub fn set_viewport(mut self, data: &[u8], at: usize, viewports: &mut [f32]) -> Answered
         ensures { λ r. ⌜ outcome r (now (viewports .exit)) ≡ carry area2 (viewportPlan self (tableIn viewportArea (self .counts) (now (viewports .entry))) (now («data» .entry)) at) self (now (viewports .entry)) ⌝ }
     {
-        if !self.sound() {
-            return Answered {
-                state: self,
-                answer: Answer::BadState,
-            };
+        let n = self.counts.viewports;
+        let room = areas::room_of(VIEWPORT_WIDTH, viewports.len());
+        let mut answer = self.early_in(data.len(), at, 16, 2, n, room);
+        if let Answer::Done = answer {
+            let v = layout::viewport(data, at);
+            let scale = v.scale;
+            let translation = v.translation;
+            let entry = [
+                scale[0],
+                scale[1],
+                scale[2],
+                translation[0],
+                translation[1],
+                translation[2],
+            ];
+            let how = decide::append::append_f32(viewports, VIEWPORT_WIDTH, n, &entry);
+            if let Append::Full = how {
+                answer = Answer::NoRoom(2);
+            } else {
+                self.viewport = entry;
+                let used = count_after(how, n);
+                self.counts.viewports = used;
+            }
         }
-        if !decide::judge::reaches(data.len(), at, 16) {
-            return Answered {
-                state: self,
-                answer: Answer::ShortData(16),
-            };
+        Answered {
+            state: self,
+            answer: answer,
         }
-        if !decide::judge::holds(
-            self.counts.viewports,
-            0,
-            areas::room_of(VIEWPORT_WIDTH, viewports.len()),
-        ) {
-            return Answered {
-                state: self,
-                answer: Answer::ShortArea(2),
-            };
-        }
-        let v = layout::viewport(data, at);
-        let scale = v.scale;
-        let translation = v.translation;
-        let entry = [
-            scale[0],
-            scale[1],
-            scale[2],
-            translation[0],
-            translation[1],
-            translation[2],
-        ];
-        self.viewport_to(entry, viewports)
     }
 
     // Geometry mode: (old AND off) OR on.
@@ -400,20 +389,17 @@ impl State {
         ensures { λ r. ⌜ outcome r tt ≡ carry nothing (geometryPlan (familyOf (self .microcode)) self off on) self tt ⌝ }
     {
         let family = decide::family::family_of(self.microcode);
-        if !self.sound() {
-            return Answered {
-                state: self,
-                answer: Answer::BadState,
-            };
+        let sound = self.sound();
+        if sound {
+            let old = self.geometry;
+            let new = decide::stack::geometry_after(off, on, old);
+            let changed = self.lights.changed | decide::stack::relights(family, old, new);
+            self.geometry = new;
+            self.lights.changed = changed;
         }
-        let old = self.geometry;
-        let new = decide::stack::geometry_after(off, on, old);
-        let changed = self.lights.changed | decide::stack::relights(family, old, new);
-        self.geometry = new;
-        self.lights.changed = changed;
         Answered {
             state: self,
-            answer: Answer::Done,
+            answer: done_if(sound),
         }
     }
 }

@@ -1,21 +1,19 @@
 // Modify, and the ink count.
 ghost use mathlib.Core.Path.{_≡_};
 ghost use Prim.Native.Nat.{_<_};
-ghost use lib.ListN.{length};
+ghost use mathlib.Core.Bool.{false};
+ghost use lib.ListN.{length, getD};
 ghost use Rattle.areas.specs.Area.{room};
 ghost use Rattle.areas.specs.Widths.{scaleWidth};
 ghost use Rattle.change.specs.Steps.{rowRoom};
 ghost use Rattle.stage.specs.Plan.{outcome, carry, nothing, rowTable, indexArea, tableIn};
-ghost use Rattle.stage.specs.Modify.{changed, modifyMeans, inkPlan};
-ghost use Rattle.stage.specs.Steps.{modifyAnswer, countsTo};
-ghost use Rattle.stage.specs.With.{withCounts};
+ghost use Rattle.stage.specs.Modify.{modifyMeans, inkPlan};
+ghost use Rattle.stage.specs.Steps.{modifyAnswer};
 use crate::Answer;
 use crate::Answered;
 use crate::State;
 use areas::widths::INDEX_WIDTH;
 use areas::widths::SCALE_WIDTH;
-use change::Change;
-use change::judge::Moved;
 use change::judge::Refusal;
 use change::judge::Slot;
 use change::judge::Tables;
@@ -33,6 +31,19 @@ fn answer_of(r: Refusal, slot: u32, attribute: u32) -> Answer
     }
 }
 
+// The mark of a slot, where there is such a slot. It calls itself so that it is never taken into its caller: then it reads
+// the caller's marks where they stand, and else a copy of them is made first.
+fn mark_at(marks: &[bool; 256], slot: u32) -> bool
+    ensures { λ r. ⌜ (slot < 256 → r ≡ getD (now (marks .entry)) slot false) ⌝ }
+{
+    let k = (slot % 256) as usize;
+    if 256 <= slot {
+        let m = mark_at(marks, slot / 256);
+        return m & marks[k];
+    }
+    marks[k]
+}
+
 impl State {
     // What the judge of a change looks at of tables 3 and 7, whose areas have so many numbers.
     fn tables37(self, scales: usize, floats: usize, words: usize) -> Tables
@@ -47,29 +58,6 @@ impl State {
         }
     }
 
-    // The state once the change is made. Asks for a slot that there is, which the judge has seen to by then.
-    fn changed_to(mut self, slot: u32, c: Change, m: Moved) -> State
-        requires { ⌜ slot < 256 ⌝ }
-        ensures { λ r. ⌜ r ≡ withCounts (changed c m self slot) (countsTo m (self .counts)) ⌝ }
-    {
-        let k = slot as usize;
-        let mut row = self.row;
-        let mut drawn = self.drawn;
-        let mut z = self.z;
-        let deep = self.deep;
-        let depth = change::depth_after(c, deep[k], z[k]);
-        row[k] = m.row;
-        drawn[k] = false;
-        z[k] = depth;
-        self.row = row;
-        self.drawn = drawn;
-        self.z = z;
-        self.unit = m.unit;
-        self.counts.scales = m.scales;
-        self.counts.rows = m.rows;
-        self
-    }
-
     // Modify: attributes 0x10, 0x14, 0x18 and 0x1C. All is judged before anything is written.
     pub fn modify_vertex(
         mut self,
@@ -82,43 +70,51 @@ impl State {
     ) -> Answered
         ensures { λ r. ⌜ outcome r (now (scales .exit), now (floats .exit), now (words .exit)) ≡ modifyMeans self slot attribute value (now (scales .entry), now (floats .entry), now (words .entry)) ⌝ }
     {
-        if !self.sound() {
-            return Answered {
-                state: self,
-                answer: Answer::BadState,
-            };
-        }
-        if 256 <= slot {
-            return Answered {
-                state: self,
-                answer: Answer::BadModify(slot, attribute),
-            };
-        }
-        let k = slot as usize;
         let loaded = self.loaded;
-        let drawn = self.drawn;
-        let row = self.row;
-        let s = Slot {
-            loaded: loaded[k],
-            drawn: drawn[k],
-            row: row[k],
-        };
-        let t = self.tables37(scales.len(), floats.len(), words.len());
-        let v = change::judge::judge(change::decode(attribute, value), s, t);
-        match v {
-            Verdict::No(r) => Answered {
-                state: self,
-                answer: answer_of(r, slot, attribute),
-            },
-            Verdict::Go(c, m) => {
-                change::remake::append_unit(scales, self.counts.scales, m.scales);
-                change::remake::remake_floats(floats, s.row, m.row, c);
-                change::remake::remake_words(words, s.row, m.row, m.unit, c);
-                Answered {
-                    state: self.changed_to(slot, c, m),
-                    answer: Answer::Done,
+        let there = mark_at(&loaded, slot);
+        let deep = self.deep;
+        let deeply = mark_at(&deep, slot);
+        let mut drawn = self.drawn;
+        let mut row = self.row;
+        let mut z = self.z;
+        let mut answer = Answer::BadState;
+        if self.sound() {
+            if 256 <= slot {
+                answer = Answer::BadModify(slot, attribute);
+            } else {
+                let k = slot as usize;
+                let s = Slot {
+                    loaded: there,
+                    drawn: drawn[k],
+                    row: row[k],
+                };
+                let t = self.tables37(scales.len(), floats.len(), words.len());
+                let v = change::judge::judge(change::decode(attribute, value), s, t);
+                match v {
+                    Verdict::No(r) => {
+                        answer = answer_of(r, slot, attribute);
+                    }
+                    Verdict::Go(c, m) => {
+                        change::remake::append_unit(scales, self.counts.scales, m.scales);
+                        change::remake::remake_floats(floats, s.row, m.row, c);
+                        change::remake::remake_words(words, s.row, m.row, m.unit, c);
+                        row[k] = m.row;
+                        drawn[k] = false;
+                        z[k] = change::depth_after(c, deeply, z[k]);
+                        self.unit = m.unit;
+                        self.counts.scales = m.scales;
+                        self.counts.rows = m.rows;
+                        answer = Answer::Done;
+                    }
                 }
             }
+        }
+        self.drawn = drawn;
+        self.row = row;
+        self.z = z;
+        Answered {
+            state: self,
+            answer: answer,
         }
     }
 

@@ -1,14 +1,16 @@
 // Texture, fog, lights and lookat, and the change between microcodes.
 ghost use mathlib.Core.Path.{_≡_};
 ghost use Rattle.decide.specs.Lights.{lightNumber};
-ghost use Rattle.stage.specs.Plan.{outcome, carry, nothing};
-ghost use Rattle.stage.specs.Lights.{texturePlan, fogPlan, lightIn, axisIn, numberPlan, ambientPlan, slotPlan, lightPlan, lookatPlan, microcodeNumber, microcodePlan};
+ghost use Rattle.stage.specs.Plan.{outcome, carry, nothing, pick};
+ghost use Rattle.stage.specs.Lights.{texturePlan, fogPlan, lightIn, axisIn, numberPlan, lightPlan, lookatPlan, microcodeNumber, microcodePlan};
+ghost use Rattle.stage.specs.declared.Answer.the-variants.{Done, ShortData, BadState};
 use crate::Answer;
 use crate::Answered;
 use crate::Lights;
 use crate::Lookat;
 use crate::State;
 use crate::Texture;
+use crate::matrices::done_if;
 use layout::records::Light;
 
 // The microcodes between which a caller may change.
@@ -54,28 +56,40 @@ fn with_axis(l: Lookat, slot: u32, direction: [f32; 3]) -> Lookat
     lookat
 }
 
+// The answer of a command that reads `need` bytes and writes no table.
+fn told_of(sound: bool, there: bool, need: u32) -> Answer
+    ensures { λ r. ⌜ r ≡ pick sound (pick there Done (ShortData need)) BadState ⌝ }
+{
+    if sound {
+        if there {
+            Answer::Done
+        } else {
+            Answer::ShortData(need)
+        }
+    } else {
+        Answer::BadState
+    }
+}
+
 impl State {
     // Texture: the five numbers as given.
     pub fn set_texture(mut self, tile: u8, level: u8, on: bool, sc: u16, tc: u16) -> Answered
         ensures { λ r. ⌜ outcome r tt ≡ carry nothing (texturePlan self tile level on sc tc) self tt ⌝ }
     {
-        if !self.sound() {
-            return Answered {
-                state: self,
-                answer: Answer::BadState,
+        let sound = self.sound();
+        if sound {
+            let t = Texture {
+                tile: tile,
+                level: level,
+                on: on,
+                sc: sc,
+                tc: tc,
             };
+            self.texture = t;
         }
-        let t = Texture {
-            tile: tile,
-            level: level,
-            on: on,
-            sc: sc,
-            tc: tc,
-        };
-        self.texture = t;
         Answered {
             state: self,
-            answer: Answer::Done,
+            answer: done_if(sound),
         }
     }
 
@@ -83,35 +97,14 @@ impl State {
     pub fn set_fog(mut self, multiplier: i16, offset: i16) -> Answered
         ensures { λ r. ⌜ outcome r tt ≡ carry nothing (fogPlan self multiplier offset) self tt ⌝ }
     {
-        if !self.sound() {
-            return Answered {
-                state: self,
-                answer: Answer::BadState,
-            };
+        let sound = self.sound();
+        if sound {
+            self.fogmul = multiplier;
+            self.fogoff = offset;
         }
-        self.fogmul = multiplier;
-        self.fogoff = offset;
         Answered {
             state: self,
-            answer: Answer::Done,
-        }
-    }
-
-    // So many lights.
-    fn numbered(mut self, n: u32) -> Answered
-        ensures { λ r. ⌜ outcome r tt ≡ carry nothing (numberPlan self n) self tt ⌝ }
-    {
-        if !self.sound() {
-            return Answered {
-                state: self,
-                answer: Answer::BadState,
-            };
-        }
-        self.lights.number = n;
-        self.lights.changed = true;
-        Answered {
-            state: self,
-            answer: Answer::Done,
+            answer: done_if(sound),
         }
     }
 
@@ -119,87 +112,58 @@ impl State {
     pub fn set_num_lights(mut self, bytes: u32) -> Answered
         ensures { λ r. ⌜ outcome r tt ≡ carry nothing (numberPlan self (lightNumber bytes)) self tt ⌝ }
     {
-        self.numbered(decide::lights::light_number(bytes))
-    }
-
-    // The ambient colour: 3 bytes.
-    fn ambient_from(mut self, data: &[u8], at: usize) -> Answered
-        ensures { λ r. ⌜ outcome r tt ≡ carry nothing (ambientPlan self (now («data» .entry)) at) self tt ⌝ }
-    {
-        if !decide::judge::reaches(data.len(), at, 3) {
-            return Answered {
-                state: self,
-                answer: Answer::ShortData(3),
-            };
+        let sound = self.sound();
+        if sound {
+            let n = decide::lights::light_number(bytes);
+            self.lights.number = n;
+            self.lights.changed = true;
         }
-        let colour = layout::colour(data, at);
-        let mut l = self.lights;
-        l.ambient = colour;
-        l.changed = true;
-        self.lights = l;
         Answered {
             state: self,
-            answer: Answer::Done,
+            answer: done_if(sound),
         }
     }
 
-    // A slot's direction and colour: 11 bytes. A slot from 8 on stores nothing.
-    fn slot_from(mut self, slot: u32, data: &[u8], at: usize) -> Answered
-        ensures { λ r. ⌜ outcome r tt ≡ carry nothing (slotPlan self slot (now («data» .entry)) at) self tt ⌝ }
-    {
-        if !decide::judge::reaches(data.len(), at, 11) {
-            return Answered {
-                state: self,
-                answer: Answer::ShortData(11),
-            };
-        }
-        let mut l = with_light(self.lights, slot, layout::light(data, at));
-        l.changed = true;
-        self.lights = l;
-        Answered {
-            state: self,
-            answer: Answer::Done,
-        }
-    }
-
-    // Light: slot = number is the ambient colour.
+    // Light: slot = number is the ambient colour, 3 bytes; else a slot's direction and colour, 11 bytes. A slot from 8 on
+    // stores nothing.
     pub fn set_light(mut self, slot: u32, data: &[u8], at: usize) -> Answered
         ensures { λ r. ⌜ outcome r tt ≡ carry nothing (lightPlan self slot (now («data» .entry)) at) self tt ⌝ }
     {
-        if !self.sound() {
-            return Answered {
-                state: self,
-                answer: Answer::BadState,
-            };
+        let ambient = slot == self.lights.number;
+        let need = decide::number::if_else(ambient, 3, 11);
+        let sound = self.sound();
+        let there = decide::judge::reaches(data.len(), at, need as usize);
+        if sound & there {
+            let mut l = self.lights;
+            if ambient {
+                let colour = layout::colour(data, at);
+                l.ambient = colour;
+            } else {
+                l = with_light(l, slot, layout::light(data, at));
+            }
+            l.changed = true;
+            self.lights = l;
         }
-        if slot == self.lights.number {
-            return self.ambient_from(data, at);
+        Answered {
+            state: self,
+            answer: told_of(sound, there, need),
         }
-        self.slot_from(slot, data, at)
     }
 
     // Lookat: 11 bytes, of which the direction. A slot from 2 on stores nothing.
     pub fn set_lookat(mut self, slot: u32, data: &[u8], at: usize) -> Answered
         ensures { λ r. ⌜ outcome r tt ≡ carry nothing (lookatPlan self slot (now («data» .entry)) at) self tt ⌝ }
     {
-        if !self.sound() {
-            return Answered {
-                state: self,
-                answer: Answer::BadState,
-            };
+        let sound = self.sound();
+        let there = decide::judge::reaches(data.len(), at, 11);
+        if sound & there {
+            let mut l = with_axis(self.lookat, slot, layout::direction(data, at + 8));
+            l.changed = true;
+            self.lookat = l;
         }
-        if !decide::judge::reaches(data.len(), at, 11) {
-            return Answered {
-                state: self,
-                answer: Answer::ShortData(11),
-            };
-        }
-        let mut l = with_axis(self.lookat, slot, layout::direction(data, at + 8));
-        l.changed = true;
-        self.lookat = l;
         Answered {
             state: self,
-            answer: Answer::Done,
+            answer: told_of(sound, there, 11),
         }
     }
 
@@ -207,25 +171,22 @@ impl State {
     pub fn switch_microcode(mut self, to: Microcode) -> Answered
         ensures { λ r. ⌜ outcome r tt ≡ carry nothing (microcodePlan self to) self tt ⌝ }
     {
-        if !self.sound() {
-            return Answered {
-                state: self,
-                answer: Answer::BadState,
-            };
+        let sound = self.sound();
+        if sound {
+            let n = number_of(to);
+            let unmarked = [false; 256];
+            self.microcode = n;
+            self.defined = false;
+            self.drawn = unmarked;
+            self.z = [0.0; 256];
+            self.loaded = unmarked;
+            self.coded = unmarked;
+            self.code = [0; 256];
+            self.deep = unmarked;
         }
-        let n = number_of(to);
-        let unmarked = [false; 256];
-        self.microcode = n;
-        self.defined = false;
-        self.loaded = unmarked;
-        self.drawn = unmarked;
-        self.coded = unmarked;
-        self.code = [0; 256];
-        self.deep = unmarked;
-        self.z = [0.0; 256];
         Answered {
             state: self,
-            answer: Answer::Done,
+            answer: done_if(sound),
         }
     }
 }

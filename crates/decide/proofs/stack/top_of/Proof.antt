@@ -25,137 +25,137 @@ add-c c = search needs
 add-d : tie.Need-add-d
 add-d c = search needs
 
-mul-t8 : tie.Need-mul-t8
-mul-t8 c = search needs
+mul-t7 : tie.Need-mul-t7
+mul-t7 c = search needs
 
-array-read-t13 : tie.Need-array-read-t13
-array-read-t13 c = search needs
+element-copy-out-t12 : tie.Need-element-copy-out-t12
+element-copy-out-t12 c = search needs
 
-add-t10 : tie.Need-add-t10
-add-t10 c = search needs
+add-t9 : tie.Need-add-t9
+add-t9 c = search needs
 
-mul-t14 : tie.Need-mul-t14
-mul-t14 c = search needs
+mul-t13 : tie.Need-mul-t13
+mul-t13 c = search needs
 
-array-read-t17 : tie.Need-array-read-t17
-array-read-t17 c = search needs
+element-copy-out-t16 : tie.Need-element-copy-out-t16
+element-copy-out-t16 c = search needs
 
-add-t18 : tie.Need-add-t18
-add-t18 c = search needs
+add-t17 : tie.Need-add-t17
+add-t17 c = search needs
 
-mul-t19 : tie.Need-mul-t19
-mul-t19 c = search needs
+mul-t18 : tie.Need-mul-t18
+mul-t18 c = search needs
 
-array-read-t22 : tie.Need-array-read-t22
-array-read-t22 c = search needs
+element-copy-out-t21 : tie.Need-element-copy-out-t21
+element-copy-out-t21 c = search needs
 
-add-t23 : tie.Need-add-t23
-add-t23 c = search needs
+add-t22 : tie.Need-add-t22
+add-t22 c = search needs
 
-mul-t24 : tie.Need-mul-t24
-mul-t24 c = search needs
+mul-t23 : tie.Need-mul-t23
+mul-t23 c = search needs
 
-array-read-t27 : tie.Need-array-read-t27
-array-read-t27 c = search needs
+element-copy-out-t26 : tie.Need-element-copy-out-t26
+element-copy-out-t26 c = search needs
 
-mul-t29 : tie.Need-mul-t29
-mul-t29 c = search needs
+mul-t28 : tie.Need-mul-t28
+mul-t28 c = search needs
 
-array-read-t32 : tie.Need-array-read-t32
-array-read-t32 c = search needs
+element-copy-out-t31 : tie.Need-element-copy-out-t31
+element-copy-out-t31 c = search needs
 
-add-t33 : tie.Need-add-t33
-add-t33 c = search needs
+add-t32 : tie.Need-add-t32
+add-t32 c = search needs
 
-mul-t34 : tie.Need-mul-t34
-mul-t34 c = search needs
+mul-t33 : tie.Need-mul-t33
+mul-t33 c = search needs
 
-array-read-t37 : tie.Need-array-read-t37
-array-read-t37 c = search needs
+element-copy-out-t36 : tie.Need-element-copy-out-t36
+element-copy-out-t36 c = search needs
 
-add-t38 : tie.Need-add-t38
-add-t38 c = search needs
+add-t37 : tie.Need-add-t37
+add-t37 c = search needs
 
-mul-t39 : tie.Need-mul-t39
-mul-t39 c = search needs
+mul-t38 : tie.Need-mul-t38
+mul-t38 c = search needs
 
-array-read-t42 : tie.Need-array-read-t42
-array-read-t42 c = search needs
+element-copy-out-t41 : tie.Need-element-copy-out-t41
+element-copy-out-t41 c = search needs
 
-add-t43 : tie.Need-add-t43
-add-t43 c = search needs
+add-t42 : tie.Need-add-t42
+add-t42 c = search needs
 
-mul-t44 : tie.Need-mul-t44
-mul-t44 c = search needs
+mul-t43 : tie.Need-mul-t43
+mul-t43 c = search needs
 
-array-read-t47 : tie.Need-array-read-t47
-array-read-t47 c = search needs
+element-copy-out-t46 : tie.Need-element-copy-out-t46
+element-copy-out-t46 c = search needs
 
-mul-t49 : tie.Need-mul-t49
-mul-t49 c = search needs
+mul-t48 : tie.Need-mul-t48
+mul-t48 c = search needs
 
-array-read-t52 : tie.Need-array-read-t52
-array-read-t52 c = search needs
+element-copy-out-t51 : tie.Need-element-copy-out-t51
+element-copy-out-t51 c = search needs
 
-add-t53 : tie.Need-add-t53
-add-t53 c = search needs
+add-t52 : tie.Need-add-t52
+add-t52 c = search needs
 
-mul-t54 : tie.Need-mul-t54
-mul-t54 c = search needs
+mul-t53 : tie.Need-mul-t53
+mul-t53 c = search needs
 
-array-read-t57 : tie.Need-array-read-t57
-array-read-t57 c = search needs
+element-copy-out-t56 : tie.Need-element-copy-out-t56
+element-copy-out-t56 c = search needs
 
-add-t58 : tie.Need-add-t58
-add-t58 c = search needs
+add-t57 : tie.Need-add-t57
+add-t57 c = search needs
 
-mul-t59 : tie.Need-mul-t59
-mul-t59 c = search needs
+mul-t58 : tie.Need-mul-t58
+mul-t58 c = search needs
 
-array-read-t62 : tie.Need-array-read-t62
-array-read-t62 c = search needs
+element-copy-out-t61 : tie.Need-element-copy-out-t61
+element-copy-out-t61 c = search needs
 
-add-t63 : tie.Need-add-t63
-add-t63 c = search needs
+add-t62 : tie.Need-add-t62
+add-t62 c = search needs
 
-mul-t64 : tie.Need-mul-t64
-mul-t64 c = search needs
+mul-t63 : tie.Need-mul-t63
+mul-t63 c = search needs
 
-array-read-t67 : tie.Need-array-read-t67
-array-read-t67 c = search needs
+element-copy-out-t66 : tie.Need-element-copy-out-t66
+element-copy-out-t66 c = search needs
 
-mul-t69 : tie.Need-mul-t69
-mul-t69 c = search needs
+mul-t68 : tie.Need-mul-t68
+mul-t68 c = search needs
 
-array-read-t72 : tie.Need-array-read-t72
-array-read-t72 c = search needs
+element-copy-out-t71 : tie.Need-element-copy-out-t71
+element-copy-out-t71 c = search needs
 
-add-t73 : tie.Need-add-t73
-add-t73 c = search needs
+add-t72 : tie.Need-add-t72
+add-t72 c = search needs
 
-mul-t74 : tie.Need-mul-t74
-mul-t74 c = search needs
+mul-t73 : tie.Need-mul-t73
+mul-t73 c = search needs
 
-array-read-t77 : tie.Need-array-read-t77
-array-read-t77 c = search needs
+element-copy-out-t76 : tie.Need-element-copy-out-t76
+element-copy-out-t76 c = search needs
 
-add-t78 : tie.Need-add-t78
-add-t78 c = search needs
+add-t77 : tie.Need-add-t77
+add-t77 c = search needs
 
-mul-t79 : tie.Need-mul-t79
-mul-t79 c = search needs
+mul-t78 : tie.Need-mul-t78
+mul-t78 c = search needs
 
-array-read-t82 : tie.Need-array-read-t82
-array-read-t82 c = search needs
+element-copy-out-t81 : tie.Need-element-copy-out-t81
+element-copy-out-t81 c = search needs
 
-add-t83 : tie.Need-add-t83
-add-t83 c = search needs
+add-t82 : tie.Need-add-t82
+add-t82 c = search needs
 
-mul-t84 : tie.Need-mul-t84
-mul-t84 c = search needs
+mul-t83 : tie.Need-mul-t83
+mul-t83 c = search needs
 
-array-read-t87 : tie.Need-array-read-t87
-array-read-t87 c = search needs
+element-copy-out-t86 : tie.Need-element-copy-out-t86
+element-copy-out-t86 c = search needs
 
 returns : tie.Need-returns
 unfolding rows
@@ -172,48 +172,48 @@ top-of-spec =
     add-b
     add-c
     add-d
-    mul-t8
-    array-read-t13
-    add-t10
-    mul-t14
-    array-read-t17
-    add-t18
-    mul-t19
-    array-read-t22
-    add-t23
-    mul-t24
-    array-read-t27
-    mul-t29
-    array-read-t32
-    add-t33
-    mul-t34
-    array-read-t37
-    add-t38
-    mul-t39
-    array-read-t42
-    add-t43
-    mul-t44
-    array-read-t47
-    mul-t49
-    array-read-t52
-    add-t53
-    mul-t54
-    array-read-t57
-    add-t58
-    mul-t59
-    array-read-t62
-    add-t63
-    mul-t64
-    array-read-t67
-    mul-t69
-    array-read-t72
-    add-t73
-    mul-t74
-    array-read-t77
-    add-t78
-    mul-t79
-    array-read-t82
-    add-t83
-    mul-t84
-    array-read-t87
+    mul-t7
+    element-copy-out-t12
+    add-t9
+    mul-t13
+    element-copy-out-t16
+    add-t17
+    mul-t18
+    element-copy-out-t21
+    add-t22
+    mul-t23
+    element-copy-out-t26
+    mul-t28
+    element-copy-out-t31
+    add-t32
+    mul-t33
+    element-copy-out-t36
+    add-t37
+    mul-t38
+    element-copy-out-t41
+    add-t42
+    mul-t43
+    element-copy-out-t46
+    mul-t48
+    element-copy-out-t51
+    add-t52
+    mul-t53
+    element-copy-out-t56
+    add-t57
+    mul-t58
+    element-copy-out-t61
+    add-t62
+    mul-t63
+    element-copy-out-t66
+    mul-t68
+    element-copy-out-t71
+    add-t72
+    mul-t73
+    element-copy-out-t76
+    add-t77
+    mul-t78
+    element-copy-out-t81
+    add-t82
+    mul-t83
+    element-copy-out-t86
     returns)

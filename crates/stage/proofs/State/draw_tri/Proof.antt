@@ -1,16 +1,18 @@
-use Rattle.stage.proofs.Verdicts.{judgement, verdict-is, has-room, run-written, draws, draws-nothing}
+-- `stage::State::draw_tri` meets its contract. Assumes nothing.
 use mathlib.Core.Path.{refl, ap, _∙_, _≡_}
-use Rattle.areas.proofs.Tables.{length-put}
-use lib.ListN.{length}
-use mathlib.Core.Logic.{⊎-elim}
-use Rattle.triangle.proofs.Recording.{Rooms}
-use native.Mathlib.Omega.{arith}
-use Prim.Native.Nat.{ℕ}
 use mathlib.Core.List.{List, [], _∷_}
+use mathlib.Core.Logic.{⊎-elim}
+use Prim.Native.Nat.{ℕ}
+use native.Mathlib.Omega.{arith}
+use lib.ListN.{length}
 use denote.Ref.{now}
+use Rattle.areas.proofs.Tables.{length-put}
 use Rattle.decide.specs.declared.family.Family.{Family}
 use Rattle.decide.specs.Family.{familyOf}
 use Rattle.triangle.specs.Steps.{sidesOf}
+use Rattle.triangle.proofs.Recording.{Rooms}
+use Rattle.stage.specs.declared.draw.Corners.{Corners}
+use Rattle.stage.proofs.Verdicts.{judgement, verdict-is, has-room, run-written, draws, draws-nothing}
 use borrow.Author.Needs.{needs}
 use Rattle.stage.proofs.State.draw_tri.Statement.{statement}
 use Rattle.stage.proofs.State.draw_tri.Tie as tie
@@ -19,17 +21,26 @@ use Rattle.stage.proofs.State.draw_tri.Tie as tie
 abbrev asked : tie.Start → List ℕ
 asked c = c .args .material ∷ c .args .render-mode ∷ c .args .fog-colour ∷ c .args .prim-depth ∷ []
 
+-- the sides are those of the state's family
+sided : (e : tie.After-judge) →
+    let s = e .before .before .before .before .before .before .before .before .before .before .before .before .before .before .before .before .before .before .before in
+    e .before .before .before .before .before .sides-of .result ≡ sidesOf (familyOf (s .args .self .microcode)) (s .args .self .geometry)
+sided e =
+    let s = e .before .before .before .before .before .before .before .before .before .before .before .before .before .before .before .before .before .before .before in
+    e .before .before .before .before .before .sides-of .ensures ∙ ap (λ (f : Family). sidesOf f (s .args .self .geometry)) (e .before .before .before .before .before .before .before .before .before .before .before .before .before .before .before .before .family-of .ensures)
+
 -- the verdict is the one that the laws speak of
 found : (e : tie.After-judge) →
-    let s = e .before .before .before .before .before .before .before .before .before .before .before .before .before .before .before .before in
+    let s = e .before .before .before .before .before .before .before .before .before .before .before .before .before .before .before .before .before .before .before in
     e .judge .result ≡ judgement (familyOf (s .args .self .microcode)) 256 (s .args .self) (now (s .args .indices)) (now (s .args .runs)) (s .args .a) (s .args .b) (s .args .c) (asked s) refl
 found e =
-    let s = e .before .before .before .before .before .before .before .before .before .before .before .before .before .before .before .before in
+    let s = e .before .before .before .before .before .before .before .before .before .before .before .before .before .before .before .before .before .before .before in
+    let at = e .before .before .before .before .before .before .before .before .before .before .corners-at .ensures in
     verdict-is (familyOf (s .args .self .microcode)) 256 _ _ _ _ _ _ _ _ _ _ _ _ _ _ _ _ _ _ _
-    (e .before .before .before .before .before .sides-of .ensures ∙ ap (λ (f : Family). sidesOf f (s .args .self .geometry)) (e .before .before .before .before .before .before .before .before .before .before .before .before .before .family-of .ensures))
-    (e .before .before .before .before .before .before .before .before .before .corner-at .ensures)
-    (e .before .before .before .before .before .before .before .before .corner-at2 .ensures)
-    (e .before .before .before .before .before .before .before .corner-at3 .ensures)
+    (sided e)
+    (ap (λ (x : Corners). x .p) at)
+    (ap (λ (x : Corners). x .q) at)
+    (ap (λ (x : Corners). x .s) at)
     (e .before .before .before .before .before .before .tables-of .ensures)
     (e .before .before .before .before .settings-of .ensures)
     (e .before .before .last-run .ensures)
@@ -38,59 +49,17 @@ found e =
 
 -- a recorded triangle has room
 accepted : (e : tie.After-v) →
-    let a = e .before .before .before .before .before .before .before .before .before .before .before .before .before .before .before .before .before .before .args in
+    let a = e .before .before .before .before .before .before .before .before .before .before .before .before .before .before .before .before .before .before .before .before .before .args in
     Rooms (a .self .counts .indices) (a .self .counts .runs) (e .v .given .0 .0) (length (now (a .indices))) (length (now (a .runs)))
 accepted e =
-    let s = e .before .before .before .before .before .before .before .before .before .before .before .before .before .before .before .before .before .before in
+    let s = e .before .before .before .before .before .before .before .before .before .before .before .before .before .before .before .before .before .before .before .before .before in
     has-room (familyOf (s .args .self .microcode)) 256 _ _ _ _ _ _ (asked s) refl _ _ _ _ (found (e .before .before)) (e .v .given .1)
 
 family-of-requires : tie.Need-family-of-requires
 family-of-requires c κs = search needs
 
-cast-i : tie.Need-cast-i
-cast-i c = search needs
-
-cast-j : tie.Need-cast-j
-cast-j c = search needs
-
-cast-k : tie.Need-cast-k
-cast-k c = search needs
-
-array-read-corner-at : tie.Need-array-read-corner-at
-array-read-corner-at c = search needs
-
-mul-corner-at : tie.Need-mul-corner-at
-mul-corner-at c = search needs
-
-array-read-corner-at-2 : tie.Need-array-read-corner-at-2
-array-read-corner-at-2 c = search needs
-
-corner-at-requires : tie.Need-corner-at-requires
-corner-at-requires c κs = search needs
-
-array-read-corner-at-3 : tie.Need-array-read-corner-at-3
-array-read-corner-at-3 c = search needs
-
-mul-corner-at-2 : tie.Need-mul-corner-at-2
-mul-corner-at-2 c = search needs
-
-array-read-corner-at-4 : tie.Need-array-read-corner-at-4
-array-read-corner-at-4 c = search needs
-
-corner-at-requires-2 : tie.Need-corner-at-requires-2
-corner-at-requires-2 c κs = search needs
-
-array-read-corner-at-5 : tie.Need-array-read-corner-at-5
-array-read-corner-at-5 c = search needs
-
-mul-corner-at-3 : tie.Need-mul-corner-at-3
-mul-corner-at-3 c = search needs
-
-array-read-corner-at-6 : tie.Need-array-read-corner-at-6
-array-read-corner-at-6 c = search needs
-
-corner-at-requires-3 : tie.Need-corner-at-requires-3
-corner-at-requires-3 c κs = search needs
+corners-at-requires : tie.Need-corners-at-requires
+corners-at-requires c κs = search needs
 
 tables-of-requires : tie.Need-tables-of-requires
 tables-of-requires c κs = search needs
@@ -113,11 +82,20 @@ judge-requires c κs = search needs
 enum-known-v : tie.Need-enum-known-v
 enum-known-v c = search needs
 
+cast-drawn : tie.Need-cast-drawn
+cast-drawn c = search needs
+
 array-write-drawn : tie.Need-array-write-drawn
 array-write-drawn c = search needs
 
+cast-drawn-2 : tie.Need-cast-drawn-2
+cast-drawn-2 c = search needs
+
 array-write-drawn-2 : tie.Need-array-write-drawn-2
 array-write-drawn-2 c = search needs
+
+cast-drawn-3 : tie.Need-cast-drawn-3
+cast-drawn-3 c = search needs
 
 array-write-drawn-3 : tie.Need-array-write-drawn-3
 array-write-drawn-3 c = search needs
@@ -158,14 +136,13 @@ same-length-2 c = ⊎-elim (λ w. ap length (w .16 ∙ w .9 .ensures) ∙ length
 returns : tie.Need-returns
 returns c =
     let e = c .before .before in
-    let s = e .before .before .before .before .before .before .before .before .before .before .before .before .before .before .before .before in
-    let sides = e .before .before .before .before .before .sides-of .ensures ∙ ap (λ (f : Family). sidesOf f (s .args .self .geometry)) (e .before .before .before .before .before .before .before .before .before .before .before .before .before .family-of .ensures) in
+    let s = e .before .before .before .before .before .before .before .before .before .before .before .before .before .before .before .before .before .before .before in
     ⊎-elim
-    (λ w. draws (familyOf (s .args .self .microcode)) 256 (s .args .self) (now (s .args .indices)) (now (s .args .runs)) _ _ _ (asked s) refl _ _ _ _ (found e) (w .1 .given .1) _ (w .14)
-    _ (w .15 ∙ w .4 .ensures ∙ rw (sides, e .before .before .before .before .before .before .before .before .before .corner-at .ensures, e .before .before .before .before .before .before .before .before .corner-at2 .ensures, e .before .before .before .before .before .before .before .corner-at3 .ensures))
-    _ (run-written (familyOf (s .args .self .microcode)) (s .args .self) (now (s .args .runs)) (asked s) _ _ _ _ _ _ _ sides (e .before .before .before .before .settings-of .ensures) (w .8 .ensures) (w .16 ∙ w .9 .ensures))
-    _ (w .17) _ (c .answer-of .ensures))
-    (λ w. draws-nothing (familyOf (s .args .self .microcode)) 256 (s .args .self) (now (s .args .indices)) (now (s .args .runs)) _ _ _ (asked s) refl _ _ _ _ _ _ (found e) (w .0 .keys2) (w .1) (w .2) (w .3) (w .4) (c .answer-of .ensures))
+    (λ w. draws (familyOf (s .args .self .microcode)) 256 (s .args .self) (now (s .args .indices)) (now (s .args .runs)) _ _ _ (asked s) refl _ _ _ _ (found e) (w .1 .given .1) _ (rw (w .14, w .17))
+    _ (w .15 ∙ w .4 .ensures ∙ rw (sided e, e .before .before .before .before .before .before .before .before .before .before .corners-at .ensures))
+    _ (run-written (familyOf (s .args .self .microcode)) (s .args .self) (now (s .args .runs)) (asked s) _ _ _ _ _ _ _ (sided e) (e .before .before .before .before .settings-of .ensures) (w .8 .ensures) (w .16 ∙ w .9 .ensures))
+    _ (w .18) _ (c .answer-of .ensures))
+    (λ w. draws-nothing (familyOf (s .args .self .microcode)) 256 (s .args .self) (now (s .args .indices)) (now (s .args .runs)) _ _ _ (asked s) refl _ _ _ _ _ _ (found e) (w .0 .keys2) (rw (w .1, w .4)) (w .2) (w .3) (w .5) (c .answer-of .ensures))
     (c .before .match .came)
 
 pub draw-tri-spec : {M : Type 1} → statement M
@@ -173,21 +150,7 @@ draw-tri-spec =
     tie.close
     (tie.spec
     family-of-requires
-    cast-i
-    cast-j
-    cast-k
-    array-read-corner-at
-    mul-corner-at
-    array-read-corner-at-2
-    corner-at-requires
-    array-read-corner-at-3
-    mul-corner-at-2
-    array-read-corner-at-4
-    corner-at-requires-2
-    array-read-corner-at-5
-    mul-corner-at-3
-    array-read-corner-at-6
-    corner-at-requires-3
+    corners-at-requires
     tables-of-requires
     sides-of-requires
     settings-of-requires
@@ -195,8 +158,11 @@ draw-tri-spec =
     sound-requires
     judge-requires
     enum-known-v
+    cast-drawn
     array-write-drawn
+    cast-drawn-2
     array-write-drawn-2
+    cast-drawn-3
     array-write-drawn-3
     cast-put-corners
     put-corners-requires

@@ -1,51 +1,51 @@
-use borrow.Author.Needs.{needs}
-use mathlib.Core.Path.{_∙_}
+-- `stage::State::matrix` meets its contract: each way out by what was answered before it. Assumes nothing.
+use mathlib.Core.Path.{_∙_, ap}
+use mathlib.Core.Logic.{⊎-elim}
+use lib.ListN.{length}
+use denote.Ref.{now}
 use borrow.Author.Tests.{leb-true}
-use Rattle.stage.proofs.Turning.{turned-in, in-room}
-use Rattle.stage.proofs.Judged.{ranges}
-use Rattle.stage.specs.Matrices.{matrixPlan, area1}
-use Rattle.stage.proofs.Cascade.{fails, holds, refused, passed, table-holds}
-use Rattle.stage.specs.declared.Answer.the-variants.{BadState, ShortData, ShortArea}
+use Rattle.areas.specs.Widths.{matrixWidth}
+use Rattle.stage.proofs.Turning.{turned-in}
+use Rattle.stage.proofs.Early.{Clear, early-clear, in-range}
+use Rattle.stage.proofs.Ways.{matrix-refused, matrix-new, matrix-full, came-from}
+use borrow.Author.Needs.{needs}
 use Rattle.stage.proofs.State.matrix.Statement.{statement}
 use Rattle.stage.proofs.State.matrix.Tie as tie
+
+-- ---- places passed on the way to a later one
+
+abbrev answered : tie.After-stack → tie.After-early-in
+answered c = c .before .before
+
+abbrev start : tie.After-early-in → tie.Start
+start c = c .before .before .before .before .before
+
+abbrev told : tie.After-stack2 → tie.After-enum-told
+told c = c .before .before .before .before .before .before
+
+abbrev taken : tie.After-slice-known2 → tie.After-turn
+taken c = c .before .before .before .before .before .before .before .before .before
+
+-- the first tests are passed
+clear : (c : tie.At-match-keys1) → let a = start (answered (c .before)) .args in Clear (a .self) matrixWidth (a .self .counts .matrices) 64 (a .at) (now (a .«data»)) (now (a .matrices))
+clear c = let e = answered (c .before) in early-clear _ 1 _ _ _ _ _ _ _ (e .before .room-of .ensures) _ (e .early-in .ensures) (c .match .keys1)
+
+-- ---- the needs
 
 family-of-requires : tie.Need-family-of-requires
 family-of-requires c κs = search needs
 
-sound-requires : tie.Need-sound-requires
-sound-requires c κs = search needs
-
-returns : tie.Need-returns
-unfolding matrixPlan
-returns c = refused area1 _ _ _ _ BadState (fails (c .before .sound .ensures) (c .if1 .taken))
-
-reaches-requires : tie.Need-reaches-requires
-reaches-requires c κs = search needs
-
-returns-2 : tie.Need-returns-2
-unfolding matrixPlan
-returns-2 c =
-    let e1 = c .before .before in
-    passed area1 _ _ _ _ _ _ _ (holds (e1 .before .sound .ensures) (e1 .if1 .left))
-    (refused area1 _ _ _ _ (ShortData 64) (fails (c .before .reaches .ensures) (c .if2 .taken)))
-
 room-of-requires : tie.Need-room-of-requires
 room-of-requires c κs = search needs
 
-holds-requires : tie.Need-holds-requires
-holds-requires c κs = search needs
+early-in-requires : tie.Need-early-in-requires
+early-in-requires c κs = search needs
 
-returns-3 : tie.Need-returns-3
-unfolding matrixPlan
-returns-3 c =
-    let e2 = c .before .before .before in
-    let e1 = e2 .before .before in
-    passed area1 _ _ _ _ _ _ _ (holds (e1 .before .sound .ensures) (e1 .if1 .left))
-    (passed area1 _ _ _ _ _ _ _ (holds (e2 .before .reaches .ensures) (e2 .if2 .left))
-    (refused area1 _ _ _ _ (ShortArea 1) (fails (table-holds 16 _ 0 _ _ _ (c .before .before .room-of .ensures) (c .before .holds .ensures)) (c .if3 .taken))))
+enum-told : tie.Need-enum-told
+enum-told c = search needs
 
 matrix-requires : tie.Need-matrix-requires
-matrix-requires c κs = leb-true _ _ (holds (c .before .before .before .before .reaches .ensures) (c .before .before .before .if2 .left))
+matrix-requires c κs = leb-true _ _ (clear (c .before) .reach)
 
 has-flag-requires : tie.Need-has-flag-requires
 has-flag-requires c κs = search needs
@@ -56,58 +56,66 @@ has-flag-requires-2 c κs = search needs
 has-flag-requires-3 : tie.Need-has-flag-requires-3
 has-flag-requires-3 c κs = search needs
 
-turned-by-requires : tie.Need-turned-by-requires
-turned-by-requires c κs =
-    let e1 = c .before .before .before .before .before .before .before .before .before in
-    let r = ranges _ (holds (e1 .before .sound .ensures) (e1 .if1 .left)) in
-    (r .low, r .high)
+turn-requires : tie.Need-turn-requires
+turn-requires c κs = let r = in-range (clear (told c .before)) in (r .low, r .high)
 
-product-requires : tie.Need-product-requires
-product-requires c κs =
-    let e1 = c .before .before .before .before .before .before .before .before .before .before in
-    let r = ranges _ (holds (e1 .before .sound .ensures) (e1 .if1 .left)) in
-    turned-in _ _ _ _ _ _ (c .turned-by .ensures) (r .low, r .high)
+top-at-requires : tie.Need-top-at-requires
+top-at-requires c κs =
+    let d = c .before .before in
+    let r = in-range (clear (told (d .before) .before)) in
+    turned-in _ _ _ _ (d .turn .ensures .0) (r .low, r .high)
 
-combined-to-requires : tie.Need-combined-to-requires
-combined-to-requires c κs =
-    let e3 = c .before .before .before .before .before .before .before in
-    let e1 = e3 .before .before .before .before .before in
-    let r = ranges _ (holds (e1 .before .sound .ensures) (e1 .if1 .left)) in
-    (r .matrices, in-room 16 _ _ _ _ (e3 .before .before .room-of .ensures) (e3 .before .holds .ensures) (holds (e3 .before .holds .ensures) (e3 .if3 .left)))
+product-of-requires : tie.Need-product-of-requires
+product-of-requires c κs = search needs
+
+slice-aggregate-append-f32 : tie.Need-slice-aggregate-append-f32
+slice-aggregate-append-f32 c = search needs
+
+append-f32-requires : tie.Need-append-f32-requires
+append-f32-requires c κs = search needs
+
+enum-told-2 : tie.Need-enum-told-2
+enum-told-2 c = search needs
+
+count-after-requires : tie.Need-count-after-requires
+count-after-requires c κs = in-range (clear (told (taken (c .before) .before) .before)) .matrices
 
 same-length : tie.Need-same-length
-same-length c = search needs
+same-length c = ⊎-elim (λ w. ap length (w .21) ∙ w .16 .given) (⊎-elim (λ w. ap length (w .22) ∙ w .16 .given) (λ w. ap length (w .2))) (c .match .came)
 
-returns-4 : tie.Need-returns-4
-unfolding matrixPlan
-returns-4 c =
-    let e3 = c .before .before .before .before .before .before .before .before .before .before in
-    let e2 = e3 .before .before .before in
-    let e1 = e2 .before .before in
-    passed area1 _ _ _ _ _ _ _ (holds (e1 .before .sound .ensures) (e1 .if1 .left))
-    (passed area1 _ _ _ _ _ _ _ (holds (e2 .before .reaches .ensures) (e2 .if2 .left))
-    (passed area1 _ _ _ _ _ _ _ (holds (table-holds 16 _ 0 _ _ _ (e3 .before .before .room-of .ensures) (e3 .before .holds .ensures)) (e3 .if3 .left))
-    (c .before .before .combined-to .ensures
-    ∙ rw (c .before .before .before .before .product .ensures, c .before .before .before .before .before .turned-by .ensures, c .before .before .before .before .before .before .has-flag3 .ensures, c .before .before .before .before .before .before .before .has-flag2 .ensures, c .before .before .before .before .before .before .before .before .has-flag .ensures, c .before .before .before .before .before .before .before .before .before .matrix .ensures, e1 .before .before .family-of .ensures))))
+returns : tie.Need-returns
+returns c =
+    let e = answered (c .before) in
+    let f = e .before .before .family-of .ensures in
+    ⊎-elim
+    (λ w. came-from _ _ _ _ _ _ _ _ _ (w .20) (w .21) (w .22) (w .23)
+    (matrix-full _ _ _ _ _ (clear (record { before = c .before; match = w .0 })) _ _ _ _ _ _ _ _ _ _ _ _ f (w .3 .ensures) (w .4 .ensures) (w .5 .ensures) (w .2 .ensures) (w .8 .ensures .0) (w .8 .ensures .1) (w .8 .ensures .2) (w .11 .ensures) (w .12 .ensures) (w .15 .ensures)
+    (w .19 .given .1)))
+    (⊎-elim
+    (λ w. came-from _ _ _ _ _ _ _ _ _ (w .21) (w .22) (w .23) (w .24)
+    (matrix-new _ _ _ _ _ (clear (record { before = c .before; match = w .0 })) _ _ _ _ _ _ _ _ _ _ _ _ f (w .3 .ensures) (w .4 .ensures) (w .5 .ensures) (w .2 .ensures) (w .8 .ensures .0) (w .8 .ensures .1) (w .8 .ensures .2) (w .11 .ensures) (w .12 .ensures) (w .15 .ensures)
+    _ (w .1 .given .1) _ (w .19 .ensures) (w .18 .keys2)))
+    (λ w. came-from _ _ _ _ _ _ _ _ _ (w .1) (w .2) (w .3) (w .4) (matrix-refused _ _ _ _ _ _ _ (e .before .room-of .ensures) (e .early-in .ensures) (w .0 .keys2))))
+    (c .match .came)
 
 pub matrix-spec : {M : Type 1} → statement M
 matrix-spec =
     tie.close
     (tie.spec
     family-of-requires
-    sound-requires
-    returns
-    reaches-requires
-    returns-2
     room-of-requires
-    holds-requires
-    returns-3
+    early-in-requires
+    enum-told
     matrix-requires
     has-flag-requires
     has-flag-requires-2
     has-flag-requires-3
-    turned-by-requires
-    product-requires
-    combined-to-requires
+    turn-requires
+    top-at-requires
+    product-of-requires
+    slice-aggregate-append-f32
+    append-f32-requires
+    enum-told-2
+    count-after-requires
     same-length
-    returns-4)
+    returns)

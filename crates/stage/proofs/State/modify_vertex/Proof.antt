@@ -1,64 +1,62 @@
 -- `stage::State::modify_vertex` meets its contract. Assumes nothing.
-use mathlib.Core.Path.{_≡_}
+use mathlib.Core.Path.{_≡_, sym, _∙_, ap}
+use mathlib.Core.Logic.{⊎-elim}
 use Prim.Native.Nat.{_+_, _*_, _≤_}
+use native.Mathlib.Omega.{arith}
 use lib.ListN.{length, getD}
+use denote.Ref.{now}
 use Rattle.areas.specs.Widths.{floatWidth, wordWidth}
+use Rattle.areas.proofs.Tables.{length-write}
 use Rattle.change.specs.declared.Change.{Change}
 use Rattle.change.specs.declared.judge.Moved.{Moved}
 use Rattle.change.specs.declared.judge.Verdict.{Verdict}
 use Rattle.change.specs.declared.judge.Verdict.the-variants.{Go}
 use Rattle.change.specs.Decoded.{decoded}
-use Rattle.stage.specs.Modify.{modifyPlan, areas37}
-use Rattle.stage.specs.declared.Answer.the-variants.{BadState}
-use Rattle.stage.proofs.Cascade.{fails, holds, refused, passed}
 use Rattle.stage.proofs.Judged.{ranges}
-use Rattle.stage.proofs.Changes.{verdict, looked, no-slot, refused-by, written, accepted}
+use Rattle.stage.proofs.Changes.{verdict, looked, no-slot, written, same-state, changed-state, way-unsound, way-refused, way-accepted}
 use borrow.Author.Needs.{needs}
 use Rattle.stage.proofs.State.modify_vertex.Statement.{statement}
 use Rattle.stage.proofs.State.modify_vertex.Tie as tie
 
+-- ---- places passed on the way to a later one
+
+abbrev start : tie.After-judge → tie.Start
+start e = e .before .before .before .before .before .before .before .before .before .before .before .before .before .before .before .before .before .before
+
 -- what the judge answered is the verdict that the plan goes by
 told : (e : tie.After-judge) (x : Verdict) → e .judge .result ≡ x
-    → let a = e .before .before .before .before .before .before .before .before .before .before .before .before .args in
+    → let a = start e .args in
     verdict 256 (a .self) (a .scales .now) (a .floats .now) (a .words .now) (a .slot) (decoded (a .attribute) (a .value)) ≡ x
 told e x d =
-    let a = e .before .before .before .before .before .before .before .before .before .before .before .before .args in
-    looked 256 (a .self) (a .slot) _ _ _ _ _ x (e .before .before .before .before .before .before .if2 .left) (e .before .decode .ensures) (e .before .before .tables37 .ensures) (e .judge .ensures) d
+    looked 256 (start e .args .self) (start e .args .slot) _ _ _ _ _ _ x (e .before .before .before .if2 .left) (e .before .decode .ensures) (e .before .before .tables37 .ensures) (e .before .before .before .before .before .before .before .before .before .before .before .before .mark-at .ensures (e .before .before .before .if2 .left)) (e .judge .ensures) d
 
 -- where it is accepted, the row that is written lies in both areas
 fits-areas : (e : tie.After-judge) (x : Change) (m : Moved) → e .judge .result ≡ Go x m
-    → let a = e .before .before .before .before .before .before .before .before .before .before .before .before .args in
+    → let a = start e .args in
     (getD (a .self .row) (a .slot) 0 ≤ m .row) × (m .row * floatWidth + floatWidth ≤ length (a .floats .now)) × (m .row * wordWidth + wordWidth ≤ length (a .words .now))
 fits-areas e x m d =
-    let a = e .before .before .before .before .before .before .before .before .before .before .before .before .args in
+    let a = start e .args in
     written 256 (a .self) (a .scales .now) (a .floats .now) (a .words .now) (a .slot) _ x m (told e (Go x m) d)
+
+-- ---- the needs
+
+mark-at-requires : tie.Need-mark-at-requires
+mark-at-requires c κs = search needs
+
+mark-at-requires-2 : tie.Need-mark-at-requires-2
+mark-at-requires-2 c κs = search needs
 
 sound-requires : tie.Need-sound-requires
 sound-requires c κs = search needs
 
-returns : tie.Need-returns
-unfolding modifyPlan
-returns c = refused areas37 _ _ _ _ BadState (fails (c .before .sound .ensures) (c .if1 .taken))
-
-returns-2 : tie.Need-returns-2
-unfolding modifyPlan
-returns-2 c =
-    let a = c .before .before .before .before .before .before .args in
-    passed areas37 _ _ _ _ _ _ _ (holds (c .before .before .sound .ensures) (c .before .if1 .left))
-    (refused-by 256 (a .self) (a .scales .now) (a .floats .now) (a .words .now) (a .slot) (a .attribute) _ _
-    (no-slot 256 (a .self) (a .scales .now) (a .floats .now) (a .words .now) (a .slot) (a .attribute) _ (c .if2 .taken)))
-
-array-read-t19 : tie.Need-array-read-t19
-array-read-t19 c = search needs
-
-array-read-t18 : tie.Need-array-read-t18
-array-read-t18 c = search needs
-
-mul-t26 : tie.Need-mul-t26
-mul-t26 c = search needs
-
 array-read-t29 : tie.Need-array-read-t29
 array-read-t29 c = search needs
+
+mul-t30 : tie.Need-mul-t30
+mul-t30 c = search needs
+
+array-read-t33 : tie.Need-array-read-t33
+array-read-t33 c = search needs
 
 tables37-requires : tie.Need-tables37-requires
 tables37-requires c κs = search needs
@@ -68,7 +66,7 @@ decode-requires c κs = search needs
 
 judge-requires : tie.Need-judge-requires
 judge-requires c κs =
-    let r = ranges _ (holds (c .before .before .before .before .before .before .before .sound .ensures) (c .before .before .before .before .before .before .if1 .left)) in
+    let r = ranges _ (sym (c .before .before .before .before .sound .ensures) ∙ c .before .before .before .if1 .taken) in
     rw (c .before .tables37 .ensures) (r .scales, r .rows)
 
 enum-known-v : tie.Need-enum-known-v
@@ -93,47 +91,73 @@ remake-words-requires c κs =
     let w = fits-areas (c .before .before .before .before .before .before .before .before .before .before .before .before) _ _ (c .before .before .before .before .before .before .before .before .before .before .v2 .given .1) in
     (w .0, w .2)
 
-changed-to-requires : tie.Need-changed-to-requires
-changed-to-requires c κs = search needs
+mul-row : tie.Need-mul-row
+mul-row c = omega (arith, c .before .before .before .before .before .before .before .before .before .before .before .before .before .before .before .before .before .before .if2 .left)
 
-returns-3 : tie.Need-returns-3
-unfolding modifyPlan
-returns-3 c =
-    let e = c .before .before .before .before in
-    let a = e .before .before .before .before .before .before .before .before .before .before .before .before .args in
-    rw (c .answer-of .ensures)
-    (passed areas37 _ _ _ _ _ _ _ (holds (e .before .before .before .before .before .before .before .before .sound .ensures) (e .before .before .before .before .before .before .before .if1 .left))
-    (refused-by 256 (a .self) (a .scales .now) (a .floats .now) (a .words .now) (a .slot) (a .attribute) _ _ (told e _ (c .before .before .v .given .1))))
+array-write-row : tie.Need-array-write-row
+array-write-row c = c .before .before .before .before .before .before .before .before .before .before .before .before .before .before .before .before .before .before .if2 .left
+
+array-write-drawn : tie.Need-array-write-drawn
+array-write-drawn c = c .before .before .before .before .before .before .before .before .before .before .before .before .before .before .before .before .before .before .if2 .left
+
+mul-depth-after : tie.Need-mul-depth-after
+mul-depth-after c = omega (arith, c .before .before .before .before .before .before .before .before .before .before .before .before .before .before .before .before .before .before .if2 .left)
+
+array-read-depth-after : tie.Need-array-read-depth-after
+array-read-depth-after c = c .before .before .before .before .before .before .before .before .before .before .before .before .before .before .before .before .before .before .if2 .left
+
+depth-after-requires : tie.Need-depth-after-requires
+depth-after-requires c κs = search needs
+
+mul-z : tie.Need-mul-z
+mul-z c = omega (arith, c .before .before .before .before .before .before .before .before .before .before .before .before .before .before .before .before .before .before .before .if2 .left)
+
+array-write-z : tie.Need-array-write-z
+array-write-z c = c .before .before .before .before .before .before .before .before .before .before .before .before .before .before .before .before .before .before .before .if2 .left
 
 same-length : tie.Need-same-length
-same-length c = search needs
+same-length c =
+    ⊎-elim (λ w. ap length (w .3))
+    (⊎-elim (λ w. ap length (w .10))
+    (⊎-elim (λ w. ap length (w .24) ∙ w .9 .kept .0) (λ w. ap length (w .2))))
+    (c .if1 .came)
 
 same-length-2 : tie.Need-same-length-2
-same-length-2 c = search needs
+same-length-2 c =
+    ⊎-elim (λ w. ap length (w .4))
+    (⊎-elim (λ w. ap length (w .11))
+    (⊎-elim (λ w. ap length (w .25 ∙ w .13 .ensures) ∙ length-write _ _ _ _) (λ w. ap length (w .3))))
+    (c .if1 .came)
 
 same-length-3 : tie.Need-same-length-3
-same-length-3 c = search needs
+same-length-3 c =
+    ⊎-elim (λ w. ap length (w .5))
+    (⊎-elim (λ w. ap length (w .12))
+    (⊎-elim (λ w. ap length (w .26 ∙ w .17 .ensures) ∙ length-write _ _ _ _) (λ w. ap length (w .4))))
+    (c .if1 .came)
 
-returns-4 : tie.Need-returns-4
-unfolding modifyPlan
-returns-4 c =
-    let e = c .before .before .before .before .before .before .before .before .before .before .before .before .before .before .before .before in
-    let a = e .before .before .before .before .before .before .before .before .before .before .before .before .args in
-    passed areas37 _ _ _ _ _ _ _ (holds (e .before .before .before .before .before .before .before .before .sound .ensures) (e .before .before .before .before .before .before .before .if1 .left))
-    (accepted 256 (a .self) (a .scales .now) (a .floats .now) (a .words .now) (a .slot) (a .attribute) _ _ _ (told e _ (c .before .before .before .before .before .before .before .before .before .before .before .before .before .before .v2 .given .1)) _ _ _ _
-    (c .before .before .before .before .before .before .before .before .before .before .before .append-unit .ensures) (c .before .before .before .before .before .before .before .remake-floats .ensures) (c .before .before .before .remake-words .ensures) (c .changed-to .ensures))
+returns : tie.Need-returns
+returns c =
+    let a = c .before .before .before .before .before .before .before .before .before .before .before .before .before .before .args in
+    ⊎-elim
+    (λ w. way-refused 256 (a .self) (now (a .scales)) (now (a .floats)) (now (a .words)) (a .slot) (a .attribute) (a .value) _ _ _ _ _ _ (sym (c .before .sound .ensures) ∙ w .0 .taken) (no-slot 256 (a .self) (now (a .scales)) (now (a .floats)) (now (a .words)) (a .slot) (a .attribute) _ (w .1 .taken)) (same-state (a .self) _ _ _ _ (w .2) (w .6) (w .7) (w .8)) (w .9) (w .3) (w .4) (w .5))
+    (⊎-elim
+    (λ w. way-refused 256 (a .self) (now (a .scales)) (now (a .floats)) (now (a .words)) (a .slot) (a .attribute) (a .value) _ _ _ _ _ _ (sym (c .before .sound .ensures) ∙ w .0 .taken) (looked 256 (a .self) (a .slot) _ _ _ _ _ _ _ (w .1 .left) (w .3 .ensures) (w .2 .ensures) (c .before .before .before .before .before .before .before .before .mark-at .ensures (w .1 .left)) (w .4 .ensures) (w .6 .given .1)) (same-state (a .self) _ _ _ _ (w .9) (w .13) (w .14) (w .15)) (w .16 ∙ w .8 .ensures) (w .10) (w .11) (w .12))
+    (⊎-elim
+    (λ w. way-accepted 256 (a .self) (now (a .scales)) (now (a .floats)) (now (a .words)) (a .slot) (a .attribute) (a .value) _ _ _ _ _ _ _ (sym (c .before .sound .ensures) ∙ w .0 .taken) (looked 256 (a .self) (a .slot) _ _ _ _ _ _ _ (w .1 .left) (w .3 .ensures) (w .2 .ensures) (c .before .before .before .before .before .before .before .before .mark-at .ensures (w .1 .left)) (w .4 .ensures) (w .6 .given .1)) (changed-state _ _ (a .self) _ (a .slot) _ _ _ _ _ (w .23) (w .27) (w .28) (w .29) (w .20 .ensures) (c .before .before .before .before .before .mark-at2 .ensures (w .1 .left))) (w .30) (w .24 ∙ w .9 .ensures) (w .25 ∙ w .13 .ensures) (w .26 ∙ w .17 .ensures))
+    (λ w. way-unsound 256 (a .self) (now (a .scales)) (now (a .floats)) (now (a .words)) (a .slot) (a .attribute) (a .value) _ _ _ _ _ (sym (c .before .sound .ensures) ∙ w .0 .left) (same-state (a .self) _ _ _ _ (w .1) (w .5) (w .6) (w .7)) (w .8) (w .2) (w .3) (w .4))))
+    (c .if1 .came)
 
 pub modify-vertex-spec : {M : Type 1} → statement M
 modify-vertex-spec =
     tie.close
     (tie.spec
+    mark-at-requires
+    mark-at-requires-2
     sound-requires
-    returns
-    returns-2
-    array-read-t19
-    array-read-t18
-    mul-t26
     array-read-t29
+    mul-t30
+    array-read-t33
     tables37-requires
     decode-requires
     judge-requires
@@ -143,9 +167,15 @@ modify-vertex-spec =
     append-unit-requires
     remake-floats-requires
     remake-words-requires
-    changed-to-requires
-    returns-3
+    mul-row
+    array-write-row
+    array-write-drawn
+    mul-depth-after
+    array-read-depth-after
+    depth-after-requires
+    mul-z
+    array-write-z
     same-length
     same-length-2
     same-length-3
-    returns-4)
+    returns)

@@ -1,85 +1,126 @@
-use mathlib.Core.Path.{_∙_}
-use Rattle.stage.proofs.Turning.{popped-in, in-room}
+-- `stage::State::pop_matrix` meets its contract: each way out by what was answered before it. Assumes nothing.
+use mathlib.Core.Path.{_≡_, _∙_, sym}
+use mathlib.Core.Bool.{false, false≢true}
+use mathlib.Core.Logic.{⊎-elim}
+use mathlib.Core.List.{[]}
+use lib.Dec.{eqb}
+use denote.Ref.{now}
+use borrow.Author.Tests.{not-true, not-false}
+use Rattle.areas.specs.Widths.{matrixWidth}
+use Rattle.stage.proofs.Turning.{popped-in}
+use Rattle.stage.proofs.Early.{Clear, early-clear, in-range}
+use Rattle.stage.specs.declared.Answer.the-variants.{Done}
+use Rattle.stage.proofs.Ways.{pop-refused, pop-none, pop-new, pop-full}
 use borrow.Author.Needs.{needs}
-use Rattle.stage.specs.Plan.{carry}
-use borrow.Author.Tests.{eq-eqb, ne-eqb}
-use Rattle.stage.proofs.Cascade.{picked, left, fails, holds, refused, passed, table-holds}
-use Rattle.stage.proofs.Judged.{ranges}
-use Rattle.stage.specs.Matrices.{popPlan, area1}
-use Rattle.stage.specs.declared.Answer.the-variants.{BadState, ShortArea}
 use Rattle.stage.proofs.State.pop_matrix.Statement.{statement}
 use Rattle.stage.proofs.State.pop_matrix.Tie as tie
 
-sound-requires : tie.Need-sound-requires
-sound-requires c κs = search needs
+-- ---- places passed on the way to a later one
 
-returns : tie.Need-returns
-unfolding popPlan
-returns c = refused area1 _ _ _ _ BadState (fails (c .before .sound .ensures) (c .if1 .taken))
+abbrev answered : tie.After-p → tie.After-early-in
+answered c = c .before .before .before
+
+abbrev start : tie.After-early-in → tie.Start
+start c = c .before .before .before
+
+abbrev due : tie.After-slice-known2 → tie.Then1
+due c = c .before .before .before .before .before .before .before .before
+
+-- ---- what is known where the answer is Done, and where the depth is to change
+
+abbrev Clears : tie.After-early-in → Type 0
+Clears c = let a = start c .args in Clear (a .self) matrixWidth (a .self .counts .matrices) 0 0 [] (now (a .matrices))
+
+clear : (c : tie.At-match-keys1) → Clears (answered (c .before))
+clear c = let e = answered (c .before) in early-clear _ 1 _ _ _ _ [] _ _ (e .before .room-of .ensures) _ (e .early-in .ensures) (c .match .keys1)
+
+due-clear : (c : tie.Then1) → Clears (answered (c .before .before))
+due-clear c = ⊎-elim (λ w. clear (record { before = c .before .before; match = w .0 })) (λ w. absurd (false≢true (sym (w .1) ∙ c .if1 .taken))) (c .before .match .came)
+
+due-changed : (c : tie.Then1) → eqb (c .before .before .before .before .popped-depth .result) (start (answered (c .before .before)) .args .self .depth) ≡ false
+due-changed c = ⊎-elim (λ w. not-true _ (sym (w .3) ∙ c .if1 .taken)) (λ w. absurd (false≢true (sym (w .1) ∙ c .if1 .taken))) (c .before .match .came)
+
+due-done : (c : tie.Then1) → answered (c .before .before) .early-in .result ≡ Done
+due-done c = ⊎-elim (λ w. w .1 .given .1) (λ w. absurd (false≢true (sym (w .1) ∙ c .if1 .taken))) (c .before .match .came)
+
+-- ---- the needs
 
 room-of-requires : tie.Need-room-of-requires
 room-of-requires c κs = search needs
 
-holds-requires : tie.Need-holds-requires
-holds-requires c κs = search needs
-
-returns-2 : tie.Need-returns-2
-unfolding popPlan
-returns-2 c =
-    let e1 = c .before .before .before in
-    passed area1 _ _ _ _ _ _ _ (holds (e1 .before .sound .ensures) (e1 .if1 .left))
-    (refused area1 _ _ _ _ (ShortArea 1) (fails (table-holds 16 _ 0 _ _ _ (c .before .before .room-of .ensures) (c .before .holds .ensures)) (c .if2 .taken)))
+early-in-requires : tie.Need-early-in-requires
+early-in-requires c κs = search needs
 
 popped-depth-requires : tie.Need-popped-depth-requires
 popped-depth-requires c κs = search needs
 
-returns-3 : tie.Need-returns-3
-unfolding popPlan carry
-returns-3 c =
-    let e2 = c .before .before .before in
-    let e1 = e2 .before .before .before in
-    passed area1 _ _ _ _ _ _ _ (holds (e1 .before .sound .ensures) (e1 .if1 .left))
-    (passed area1 _ _ _ _ _ _ _ (holds (table-holds 16 _ 0 _ _ _ (e2 .before .before .room-of .ensures) (e2 .before .holds .ensures)) (e2 .if2 .left))
-    (rw (← c .before .before .popped-depth .ensures, picked _ _ _ (eq-eqb _ _ (c .if3 .taken)))))
+enum-told : tie.Need-enum-told
+enum-told c = search needs
 
-product-requires : tie.Need-product-requires
-product-requires c κs =
-    let e1 = c .before .before .before .before .before .before in
-    let r = ranges _ (holds (e1 .before .sound .ensures) (e1 .if1 .left)) in
-    popped-in _ _ _ (c .before .before .popped-depth .ensures) (r .low, r .high)
+top-at-requires : tie.Need-top-at-requires
+top-at-requires c κs =
+    let d = c .before in
+    let r = in-range (due-clear d) in
+    popped-in _ _ _ (d .before .before .before .before .popped-depth .ensures) (r .low, r .high)
 
-combined-to-requires : tie.Need-combined-to-requires
-combined-to-requires c κs =
-    let e2 = c .before .before .before .before .before in
-    let e1 = e2 .before .before .before in
-    let r = ranges _ (holds (e1 .before .sound .ensures) (e1 .if1 .left)) in
-    (r .matrices, in-room 16 _ _ _ _ (e2 .before .before .room-of .ensures) (e2 .before .holds .ensures) (holds (e2 .before .holds .ensures) (e2 .if2 .left)))
+product-of-requires : tie.Need-product-of-requires
+product-of-requires c κs = search needs
+
+slice-aggregate-append-f32 : tie.Need-slice-aggregate-append-f32
+slice-aggregate-append-f32 c = search needs
+
+append-f32-requires : tie.Need-append-f32-requires
+append-f32-requires c κs = search needs
+
+enum-told-2 : tie.Need-enum-told-2
+enum-told-2 c = search needs
+
+count-after-requires : tie.Need-count-after-requires
+count-after-requires c κs = in-range (due-clear (due (c .before))) .matrices
 
 same-length : tie.Need-same-length
 same-length c = search needs
 
-returns-4 : tie.Need-returns-4
-unfolding popPlan
-returns-4 c =
-    let e2 = c .before .before .before .before .before .before .before .before in
-    let e1 = e2 .before .before .before in
-    passed area1 _ _ _ _ _ _ _ (holds (e1 .before .sound .ensures) (e1 .if1 .left))
-    (passed area1 _ _ _ _ _ _ _ (holds (table-holds 16 _ 0 _ _ _ (e2 .before .before .room-of .ensures) (e2 .before .holds .ensures)) (e2 .if2 .left))
-    (c .before .before .combined-to .ensures
-    ∙ rw (c .before .before .before .before .product .ensures, ← c .before .before .before .before .before .before .before .popped-depth .ensures, left _ _ _ (ne-eqb _ _ (c .before .before .before .before .before .if3 .left)))))
+returns : tie.Need-returns
+returns c =
+    let d = c .before .before in
+    let t = due d in
+    pop-full _ _ _ (due-clear t) _ (t .before .before .before .before .popped-depth .ensures) (due-changed t) _ _ _ _ (d .before .before .before .before .before .before .top-at .ensures) (d .before .before .before .before .before .product-of .ensures) (d .before .before .append-f32 .ensures) (c .enum-told2 .given .1)
+
+same-length-2 : tie.Need-same-length-2
+same-length-2 c = search needs
+
+returns-2 : tie.Need-returns-2
+returns-2 c =
+    let d = c .before .before .before in
+    let t = due d in
+    pop-new _ _ _ (due-clear t) _ (t .before .before .before .before .popped-depth .ensures) (due-changed t) _ _ _ _ (d .before .before .before .before .before .before .top-at .ensures) (d .before .before .before .before .before .product-of .ensures) (d .before .before .append-f32 .ensures) _
+    (due-done t) _ (c .before .count-after .ensures) (c .before .before .match2 .keys2)
+
+returns-3 : tie.Need-returns-3
+returns-3 c =
+    let e = answered (c .before .before) in
+    ⊎-elim
+    (λ w. pop-none _ _ _ (clear (record { before = c .before .before; match = w .0 })) _ (c .before .before .before .before .popped-depth .ensures) (not-false _ (sym (w .3) ∙ c .if1 .left)) _ (w .1 .given .1))
+    (λ w. pop-refused _ _ _ _ _ (e .before .room-of .ensures) (e .early-in .ensures) (w .0 .keys2))
+    (c .before .match .came)
 
 pub pop-matrix-spec : {M : Type 1} → statement M
 pop-matrix-spec =
     tie.close
     (tie.spec
-    sound-requires
-    returns
     room-of-requires
-    holds-requires
-    returns-2
+    early-in-requires
     popped-depth-requires
-    returns-3
-    product-requires
-    combined-to-requires
+    enum-told
+    top-at-requires
+    product-of-requires
+    slice-aggregate-append-f32
+    append-f32-requires
+    enum-told-2
+    count-after-requires
     same-length
-    returns-4)
+    returns
+    same-length-2
+    returns-2
+    returns-3)

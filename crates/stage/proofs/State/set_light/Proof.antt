@@ -1,41 +1,68 @@
+-- `stage::State::set_light` meets its contract. Assumes nothing.
 use mathlib.Core.Path.{_∙_}
-use Rattle.stage.proofs.Cascade.{picked, left, fails, holds, refused, passed}
-use Rattle.stage.specs.declared.Answer.the-variants.{BadState}
-use Rattle.stage.specs.Plan.{nothing}
-use Rattle.stage.specs.Lights.{lightPlan}
-use borrow.Author.Tests.{eq-eqb, ne-eqb}
+use mathlib.Core.Logic.{⊎-elim}
+use Prim.Native.Nat.{_+_, _≤_}
+use lib.Dec.{eqb}
+use lib.ListN.{length}
+use denote.Ref.{now}
+use Rattle.stage.specs.Plan.{pick}
+use Rattle.stage.proofs.Lighting.{light-plan}
+use Rattle.stage.proofs.Cascade.{picked, left, done-if-there, reached}
 use borrow.Author.Needs.{needs}
 use Rattle.stage.proofs.State.set_light.Statement.{statement}
 use Rattle.stage.proofs.State.set_light.Tie as tie
 
+-- the bytes are there
+there : (c : tie.Then1) →
+    let n = c .before .before .before in
+    let a = n .before .before .before .args in
+    a .at + n .if-else .result ≤ length (now (a .«data»))
+there c = reached (c .before .before .sound .result) _ _ (c .before .reaches .ensures) (c .if1 .taken)
+
+if-else-requires : tie.Need-if-else-requires
+if-else-requires c κs = search needs
+
 sound-requires : tie.Need-sound-requires
 sound-requires c κs = search needs
 
+cast-reaches : tie.Need-cast-reaches
+cast-reaches c = search needs
+
+reaches-requires : tie.Need-reaches-requires
+reaches-requires c κs = search needs
+
+colour-requires : tie.Need-colour-requires
+colour-requires c κs = rw (c .before .before .before .before .before .if-else .ensures ∙ picked _ 3 11 (c .if2 .taken)) at (there (c .before .before))
+
+light-requires : tie.Need-light-requires
+light-requires c κs = rw (c .before .before .before .before .before .if-else .ensures ∙ left _ 3 11 (c .if2 .left)) at (there (c .before .before))
+
+with-light-requires : tie.Need-with-light-requires
+with-light-requires c κs = search needs
+
+told-of-requires : tie.Need-told-of-requires
+told-of-requires c κs = search needs
+
 returns : tie.Need-returns
-unfolding lightPlan
-returns c = refused nothing _ _ _ _ BadState (fails (c .before .sound .ensures) (c .if1 .taken))
-
-ambient-from-requires : tie.Need-ambient-from-requires
-ambient-from-requires c κs = search needs
-
-returns-2 : tie.Need-returns-2
-unfolding lightPlan
-returns-2 c =
-    let e1 = c .before .before .before in
-    passed nothing _ _ _ _ _ _ _ (holds (e1 .before .sound .ensures) (e1 .if1 .left))
-    (c .ambient-from .ensures ∙ rw (picked _ _ _ (eq-eqb _ _ (c .before .if2 .taken))))
-
-slot-from-requires : tie.Need-slot-from-requires
-slot-from-requires c κs = search needs
-
-returns-3 : tie.Need-returns-3
-unfolding lightPlan
-returns-3 c =
-    let e1 = c .before .before .before in
-    passed nothing _ _ _ _ _ _ _ (holds (e1 .before .sound .ensures) (e1 .if1 .left))
-    (c .slot-from .ensures ∙ rw (left _ _ _ (ne-eqb _ _ (c .before .if2 .left))))
+returns c =
+    let r = c .before .before in
+    let n = r .before .before .if-else .ensures in
+    let a = r .before .before .before .before .before .args in
+    rw light-plan
+    (done-if-there _ _ _ (pick (eqb (a .slot) (a .self .lights .number)) 3 11) (a .at) (now (a .«data»)) _ _ _ (c .before .if1 .came) (r .before .sound .ensures) (r .reaches .ensures ∙ rw n) (c .told-of .ensures ∙ rw n)
+    (λ w. (w .0 .taken, w .3 ∙ ⊎-elim (λ v. rw (v .2, picked _ _ _ (v .0 .taken), v .1 .ensures)) (λ v. rw (v .3, left _ _ _ (v .0 .left), v .2 .ensures, v .1 .ensures)) (w .2 .came)))
+    (λ w. (w .0 .left, w .1)))
 
 pub set-light-spec : {M : Type 1} → statement M
 set-light-spec =
     tie.close
-    (tie.spec sound-requires returns ambient-from-requires returns-2 slot-from-requires returns-3)
+    (tie.spec
+    if-else-requires
+    sound-requires
+    cast-reaches
+    reaches-requires
+    colour-requires
+    light-requires
+    with-light-requires
+    told-of-requires
+    returns)

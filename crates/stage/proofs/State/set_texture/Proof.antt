@@ -1,8 +1,6 @@
-use mathlib.Core.Path.{refl}
-use Rattle.stage.proofs.Cascade.{fails, holds, refused, passed}
-use Rattle.stage.specs.declared.Answer.the-variants.{BadState}
-use Rattle.stage.specs.Plan.{nothing, carry}
+-- `stage::State::set_texture` meets its contract. Assumes nothing.
 use Rattle.stage.specs.Lights.{texturePlan}
+use Rattle.stage.proofs.Cascade.{done-if-sound}
 use borrow.Author.Needs.{needs}
 use Rattle.stage.proofs.State.set_texture.Statement.{statement}
 use Rattle.stage.proofs.State.set_texture.Tie as tie
@@ -10,13 +8,12 @@ use Rattle.stage.proofs.State.set_texture.Tie as tie
 sound-requires : tie.Need-sound-requires
 sound-requires c κs = search needs
 
+done-if-requires : tie.Need-done-if-requires
+done-if-requires c κs = search needs
+
 returns : tie.Need-returns
 unfolding texturePlan
-returns c = refused nothing _ _ _ _ BadState (fails (c .before .sound .ensures) (c .if1 .taken))
-
-returns-2 : tie.Need-returns-2
-unfolding texturePlan carry
-returns-2 c = passed nothing _ _ _ _ _ _ _ (holds (c .before .sound .ensures) (c .if1 .left)) refl
+returns c = done-if-sound _ _ _ _ _ (c .before .if1 .came) (c .before .before .sound .ensures) (c .done-if .ensures) (λ w. (w .0 .taken, w .1)) (λ w. (w .0 .left, w .1))
 
 pub set-texture-spec : {M : Type 1} → statement M
-set-texture-spec = tie.close (tie.spec sound-requires returns returns-2)
+set-texture-spec = tie.close (tie.spec sound-requires done-if-requires returns)

@@ -1,107 +1,109 @@
-use Rattle.layout.specs.Layout.{viewportAt, tripleAt}
-use mathlib.Core.Path.{_∙_}
+-- `stage::State::set_viewport` meets its contract: each way out by what was answered before it. Assumes nothing.
+use denote.Ref.{now}
 use borrow.Author.Tests.{leb-true}
-use Rattle.stage.proofs.Turning.{in-room}
-use Rattle.stage.proofs.Judged.{ranges}
-use Rattle.stage.specs.Matrices.{viewportPlan, area2}
-use Rattle.stage.proofs.Cascade.{fails, holds, refused, passed, table-holds}
-use Rattle.stage.specs.declared.Answer.the-variants.{BadState, ShortData, ShortArea}
+use Rattle.areas.specs.Widths.{viewportWidth}
+use Rattle.stage.proofs.Early.{Clear, early-clear, in-range}
+use Rattle.stage.proofs.Ways.{viewport-refused, viewport-new, viewport-full}
 use borrow.Author.Needs.{needs}
 use Rattle.stage.proofs.State.set_viewport.Statement.{statement}
 use Rattle.stage.proofs.State.set_viewport.Tie as tie
 
-sound-requires : tie.Need-sound-requires
-sound-requires c κs = search needs
+-- ---- places passed on the way to a later one
 
-returns : tie.Need-returns
-unfolding viewportPlan
-returns c = refused area2 _ _ _ _ BadState (fails (c .before .sound .ensures) (c .if1 .taken))
+abbrev start : tie.After-early-in → tie.Start
+start c = c .before .before .before .before
 
-reaches-requires : tie.Need-reaches-requires
-reaches-requires c κs = search needs
+abbrev matched : tie.After-slice-known2 → tie.At-match-keys1
+matched c = c .before .before .before .before .before .before .before .before .before
 
-returns-2 : tie.Need-returns-2
-unfolding viewportPlan
-returns-2 c =
-    let e1 = c .before .before in
-    passed area2 _ _ _ _ _ _ _ (holds (e1 .before .sound .ensures) (e1 .if1 .left))
-    (refused area2 _ _ _ _ (ShortData 16) (fails (c .before .reaches .ensures) (c .if2 .taken)))
+-- the first tests are passed
+clear : (c : tie.At-match-keys1) → let a = start (c .before) .args in Clear (a .self) viewportWidth (a .self .counts .viewports) 16 (a .at) (now (a .«data»)) (now (a .viewports))
+clear c = early-clear _ 2 _ _ _ _ _ _ _ (c .before .before .room-of .ensures) _ (c .before .early-in .ensures) (c .match .keys1)
+
+-- ---- the needs
 
 room-of-requires : tie.Need-room-of-requires
 room-of-requires c κs = search needs
 
-holds-requires : tie.Need-holds-requires
-holds-requires c κs = search needs
+early-in-requires : tie.Need-early-in-requires
+early-in-requires c κs = search needs
 
-returns-3 : tie.Need-returns-3
-unfolding viewportPlan
-returns-3 c =
-    let e2 = c .before .before .before in
-    let e1 = e2 .before .before in
-    passed area2 _ _ _ _ _ _ _ (holds (e1 .before .sound .ensures) (e1 .if1 .left))
-    (passed area2 _ _ _ _ _ _ _ (holds (e2 .before .reaches .ensures) (e2 .if2 .left))
-    (refused area2 _ _ _ _ (ShortArea 2) (fails (table-holds 6 _ 0 _ _ _ (c .before .before .room-of .ensures) (c .before .holds .ensures)) (c .if3 .taken))))
+enum-told : tie.Need-enum-told
+enum-told c = search needs
 
 viewport-requires : tie.Need-viewport-requires
-viewport-requires c κs = leb-true _ _ (holds (c .before .before .before .before .reaches .ensures) (c .before .before .before .if2 .left))
+viewport-requires c κs = leb-true _ _ (clear (c .before) .reach)
 
-array-read-t18 : tie.Need-array-read-t18
-array-read-t18 c = search needs
+array-read-t17 : tie.Need-array-read-t17
+array-read-t17 c = search needs
 
-array-read-t21 : tie.Need-array-read-t21
-array-read-t21 c = search needs
+array-read-t20 : tie.Need-array-read-t20
+array-read-t20 c = search needs
 
-array-read-t24 : tie.Need-array-read-t24
-array-read-t24 c = search needs
+array-read-t23 : tie.Need-array-read-t23
+array-read-t23 c = search needs
 
-array-read-t27 : tie.Need-array-read-t27
-array-read-t27 c = search needs
+array-read-t26 : tie.Need-array-read-t26
+array-read-t26 c = search needs
 
-array-read-t30 : tie.Need-array-read-t30
-array-read-t30 c = search needs
+array-read-t29 : tie.Need-array-read-t29
+array-read-t29 c = search needs
 
-array-read-t33 : tie.Need-array-read-t33
-array-read-t33 c = search needs
+array-read-t32 : tie.Need-array-read-t32
+array-read-t32 c = search needs
 
-viewport-to-requires : tie.Need-viewport-to-requires
-viewport-to-requires c κs =
-    let e3 = c .before .before .before .before in
-    let e1 = e3 .before .before .before .before .before in
-    let r = ranges _ (holds (e1 .before .sound .ensures) (e1 .if1 .left)) in
-    (r .viewports, in-room 6 _ _ _ _ (e3 .before .before .room-of .ensures) (e3 .before .holds .ensures) (holds (e3 .before .holds .ensures) (e3 .if3 .left)))
+slice-aggregate-append-f32 : tie.Need-slice-aggregate-append-f32
+slice-aggregate-append-f32 c = search needs
+
+append-f32-requires : tie.Need-append-f32-requires
+append-f32-requires c κs = search needs
+
+enum-told-2 : tie.Need-enum-told-2
+enum-told-2 c = search needs
+
+count-after-requires : tie.Need-count-after-requires
+count-after-requires c κs = in-range (clear (matched (c .before))) .viewports
 
 same-length : tie.Need-same-length
 same-length c = search needs
 
-returns-4 : tie.Need-returns-4
-unfolding viewportPlan viewportAt tripleAt
-returns-4 c =
-    let e3 = c .before .before .before .before .before .before .before in
-    let e2 = e3 .before .before .before in
-    let e1 = e2 .before .before in
-    passed area2 _ _ _ _ _ _ _ (holds (e1 .before .sound .ensures) (e1 .if1 .left))
-    (passed area2 _ _ _ _ _ _ _ (holds (e2 .before .reaches .ensures) (e2 .if2 .left))
-    (passed area2 _ _ _ _ _ _ _ (holds (table-holds 6 _ 0 _ _ _ (e3 .before .before .room-of .ensures) (e3 .before .holds .ensures)) (e3 .if3 .left))
-    (c .before .before .viewport-to .ensures ∙ rw (c .before .before .before .before .before .before .viewport .ensures))))
+returns : tie.Need-returns
+returns c =
+    let d = c .before .before in
+    viewport-full _ _ _ _ (clear (matched d)) _ _ _ (d .before .before .before .before .before .before .before .viewport .ensures) (d .before .before .append-f32 .ensures) (c .enum-told2 .given .1)
+
+same-length-2 : tie.Need-same-length-2
+same-length-2 c = search needs
+
+returns-2 : tie.Need-returns-2
+returns-2 c =
+    let d = c .before .before .before in
+    viewport-new _ _ _ _ (clear (matched d)) _ _ _ (d .before .before .before .before .before .before .before .viewport .ensures) (d .before .before .append-f32 .ensures) _
+    (d .before .before .before .before .before .before .before .before .enum-told .given .1) _ (c .before .count-after .ensures) (c .before .before .match2 .keys2)
+
+returns-3 : tie.Need-returns-3
+returns-3 c = viewport-refused _ _ _ _ _ _ (c .before .before .room-of .ensures) (c .before .early-in .ensures) (c .match .keys2)
 
 pub set-viewport-spec : {M : Type 1} → statement M
 set-viewport-spec =
     tie.close
     (tie.spec
-    sound-requires
-    returns
-    reaches-requires
-    returns-2
     room-of-requires
-    holds-requires
-    returns-3
+    early-in-requires
+    enum-told
     viewport-requires
-    array-read-t18
-    array-read-t21
-    array-read-t24
-    array-read-t27
-    array-read-t30
-    array-read-t33
-    viewport-to-requires
+    array-read-t17
+    array-read-t20
+    array-read-t23
+    array-read-t26
+    array-read-t29
+    array-read-t32
+    slice-aggregate-append-f32
+    append-f32-requires
+    enum-told-2
+    count-after-requires
     same-length
-    returns-4)
+    returns
+    same-length-2
+    returns-2
+    returns-3)
