@@ -2,20 +2,14 @@
 ghost use mathlib.Core.Path.{_≡_};
 ghost use Prim.Native.Nat.{_≤_};
 ghost use lib.ListN.{length};
-ghost use Rattle.replay.specs.Header.{Within};
-ghost use Rattle.replay.specs.Ops.{areasOf};
-ghost use Rattle.replay.specs.Play.{portOf, played};
-use rooms::Lengths;
+ghost use Rattle.trace.specs.Header.{Within};
+ghost use Rattle.player.specs.Ops.{areasOf};
+ghost use Rattle.player.specs.Play.{portOf, played};
 use stage::State;
+use trace::rooms::Lengths;
 
-mod act;
-mod apply;
 mod dump;
 mod hash;
-mod header;
-mod ops;
-mod rooms;
-mod script;
 mod show;
 mod slots;
 mod tables;
@@ -39,17 +33,17 @@ fn play(
     ensures { λ r. ⌜ portOf r (areasOf (now (matrices .exit)) (now (viewports .exit)) (now (scales .exit)) (now (lights .exit)) (now (lookats .exit)) (now (fogs .exit)) (now (floats .exit)) (now (words .exit)) (now (indices .exit)) (now (runs .exit))) ≡ played (now (s .entry)) own (areasOf (now (matrices .entry)) (now (viewports .entry)) (now (scales .entry)) (now (lights .entry)) (now (lookats .entry)) (now (fogs .entry)) (now (floats .entry)) (now (words .entry)) (now (indices .entry)) (now (runs .entry))) ⌝ }
 {
     let mut lent = own;
-    let mut g = apply::unopened();
-    let mut at = rooms::HEADER;
+    let mut g = player::apply::unopened();
+    let mut at = trace::rooms::HEADER;
     let mut i = 0;
     while at < s.len() {
-        let c = script::call_at(ops::shape_of(s[at]), s, at);
+        let c = trace::script::call_at(trace::ops::shape_of(s[at]), s, at);
         if !c.whole {
             break;
         }
         let from = c.from;
         let to = c.to;
-        g = apply::step(
+        g = player::apply::step(
             g.state,
             c,
             &s[from..to],
@@ -65,7 +59,7 @@ fn play(
             indices,
             runs,
         );
-        lent = act::lent_after(lent, c);
+        lent = player::act::lent_after(lent, c);
         let answer = g.answer;
         let counts = g.state.counts;
         show::answered(i, c.op, answer, counts);
@@ -125,16 +119,16 @@ fn run(
 fn replay(s: &[u8], own: Lengths)
     requires { ⌜ (44 ≤ length (now s)) × ((length (now s) ≤ 262144) × Within own) ⌝ }
 {
-    let mut matrices = [7.0f32; rooms::MATRICES];
-    let mut viewports = [7.0f32; rooms::VIEWPORTS];
-    let mut scales = [7.0f32; rooms::SCALES];
-    let mut lights = [7.0f32; rooms::LIGHTS];
-    let mut lookats = [7.0f32; rooms::LOOKATS];
-    let mut fogs = [7i16; rooms::FOGS];
-    let mut floats = [7.0f32; rooms::FLOATS];
-    let mut words = [7u32; rooms::WORDS];
-    let mut indices = [7u32; rooms::INDICES];
-    let mut runs = [7u32; rooms::RUNS];
+    let mut matrices = [7.0f32; trace::rooms::MATRICES];
+    let mut viewports = [7.0f32; trace::rooms::VIEWPORTS];
+    let mut scales = [7.0f32; trace::rooms::SCALES];
+    let mut lights = [7.0f32; trace::rooms::LIGHTS];
+    let mut lookats = [7.0f32; trace::rooms::LOOKATS];
+    let mut fogs = [7i16; trace::rooms::FOGS];
+    let mut floats = [7.0f32; trace::rooms::FLOATS];
+    let mut words = [7u32; trace::rooms::WORDS];
+    let mut indices = [7u32; trace::rooms::INDICES];
+    let mut runs = [7u32; trace::rooms::RUNS];
     let n0 = own.matrices;
     let n1 = own.viewports;
     let n2 = own.scales;
@@ -163,20 +157,20 @@ fn replay(s: &[u8], own: Lengths)
 
 // Judges the header, and replays the script where it can be served.
 fn judge(s: &[u8]) {
-    if s.len() > rooms::SCRIPT {
-        show::too_long(rooms::SCRIPT);
+    if s.len() > trace::rooms::SCRIPT {
+        show::too_long(trace::rooms::SCRIPT);
         return;
     }
-    if s.len() < rooms::HEADER {
+    if s.len() < trace::rooms::HEADER {
         show::text(b"replay: the header is cut short\n");
         return;
     }
-    if !header::is_trace(s) {
+    if !trace::header::is_trace(s) {
         show::text(b"replay: the header does not begin with GST1\n");
         return;
     }
-    let own = header::lengths_of(s);
-    if !header::served(own) {
+    let own = trace::header::lengths_of(s);
+    if !trace::header::served(own) {
         show::text(b"replay: the header asks for an area over its bound\n");
         return;
     }
@@ -184,7 +178,7 @@ fn judge(s: &[u8]) {
 }
 
 fn main() {
-    let mut bytes = [0u8; rooms::SCRIPT + 1];
+    let mut bytes = [0u8; trace::rooms::SCRIPT + 1];
     let n = io::read_full(libc::STDIN_FILENO, &mut bytes);
     judge(&bytes[..n]);
 }

@@ -8,10 +8,10 @@ ghost use lib.Ieee.{binary32, binary64, toBits, ne};
 ghost use mir.Val.{ofZ};
 ghost use mir.Syntax.{w16};
 ghost use Rattle.stage.specs.Answers.{number, values};
-use crate::ops;
 use libc::STDOUT_FILENO;
 use stage::Answer;
 use stage::Counts;
+use trace::ops;
 
 pub fn text(s: &[u8]) {
     io::write_all(STDOUT_FILENO, s);

@@ -2,7 +2,7 @@
 use native.Mathlib.Omega.{arith}
 use mathlib.Core.Path.{sym, _∙_}
 use borrow.Author.Tests.{not-false}
-use Rattle.replay.proofs.Serving.{within}
+use Rattle.trace.proofs.Serving.{within}
 use borrow.Author.Needs.{needs}
 use Rattle.replay.proofs.judge.Statement.{statement}
 use Rattle.replay.proofs.judge.Tie as tie

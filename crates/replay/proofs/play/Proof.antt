@@ -8,11 +8,11 @@ use mathlib.Core.Logic.{⊎-elim}
 use borrow.Author.Tests.{not-true, not-false}
 use Rattle.stage.specs.declared.State.{State}
 use Rattle.sequence.specs.Sequence.{Alike}
-use Rattle.replay.specs.declared.ops.Shape.{Shape}
-use Rattle.replay.specs.Script.{callAt}
-use Rattle.replay.specs.Ops.{areasOf}
-use Rattle.replay.specs.Play.{portOf, playFrom}
-use Rattle.replay.proofs.Playing.{Left, all-left, left-behind, ended, cut}
+use Rattle.trace.specs.declared.ops.Shape.{Shape}
+use Rattle.trace.specs.Script.{callAt}
+use Rattle.player.specs.Ops.{areasOf}
+use Rattle.player.specs.Play.{portOf, playFrom}
+use Rattle.player.proofs.Playing.{Left, all-left, left-behind, ended, cut}
 use borrow.Author.Needs.{needs}
 use Rattle.replay.proofs.play.Statement.{statement}
 use Rattle.replay.proofs.play.Tie as tie

@@ -1,5 +1,5 @@
 -- `replay::replay` meets its contract. Assumes nothing.
-use Rattle.replay.proofs.Reading.{front}
+use Rattle.trace.proofs.Reading.{front}
 use borrow.Author.Needs.{needs}
 use Rattle.replay.proofs.replay.Statement.{statement}
 use Rattle.replay.proofs.replay.Tie as tie

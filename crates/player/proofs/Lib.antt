@@ -1,0 +1,3 @@
+pub mod Acting
+pub mod Applied
+pub mod Playing

@@ -1,0 +1,191 @@
+-- `replay::apply::lend` meets its contract. Assumes nothing.
+use Rattle.trace.proofs.Reading.{front}
+use Rattle.player.proofs.Applied.{lend-is}
+use borrow.Author.Needs.{needs}
+use Rattle.player.proofs.apply.lend.Statement.{statement}
+use Rattle.player.proofs.apply.lend.Tie as tie
+
+within-requires : tie.Need-within-requires
+within-requires c κs = search needs
+
+within-requires-2 : tie.Need-within-requires-2
+within-requires-2 c κs = search needs
+
+within-requires-3 : tie.Need-within-requires-3
+within-requires-3 c κs = search needs
+
+within-requires-4 : tie.Need-within-requires-4
+within-requires-4 c κs = search needs
+
+within-requires-5 : tie.Need-within-requires-5
+within-requires-5 c κs = search needs
+
+within-requires-6 : tie.Need-within-requires-6
+within-requires-6 c κs = search needs
+
+within-requires-7 : tie.Need-within-requires-7
+within-requires-7 c κs = search needs
+
+within-requires-8 : tie.Need-within-requires-8
+within-requires-8 c κs = search needs
+
+within-requires-9 : tie.Need-within-requires-9
+within-requires-9 c κs = search needs
+
+within-requires-10 : tie.Need-within-requires-10
+within-requires-10 c κs = search needs
+
+slice-relend-prefix-apply : tie.Need-slice-relend-prefix-apply
+slice-relend-prefix-apply c = search needs
+
+slice-aggregate-apply : tie.Need-slice-aggregate-apply
+slice-aggregate-apply c = front _ _ (search needs)
+
+slice-relend-prefix-apply-2 : tie.Need-slice-relend-prefix-apply-2
+slice-relend-prefix-apply-2 c = search needs
+
+slice-aggregate-apply-2 : tie.Need-slice-aggregate-apply-2
+slice-aggregate-apply-2 c = front _ _ (search needs)
+
+slice-relend-prefix-apply-3 : tie.Need-slice-relend-prefix-apply-3
+slice-relend-prefix-apply-3 c = search needs
+
+slice-aggregate-apply-3 : tie.Need-slice-aggregate-apply-3
+slice-aggregate-apply-3 c = front _ _ (search needs)
+
+slice-relend-prefix-apply-4 : tie.Need-slice-relend-prefix-apply-4
+slice-relend-prefix-apply-4 c = search needs
+
+slice-aggregate-apply-4 : tie.Need-slice-aggregate-apply-4
+slice-aggregate-apply-4 c = front _ _ (search needs)
+
+slice-relend-prefix-apply-5 : tie.Need-slice-relend-prefix-apply-5
+slice-relend-prefix-apply-5 c = search needs
+
+slice-aggregate-apply-5 : tie.Need-slice-aggregate-apply-5
+slice-aggregate-apply-5 c = front _ _ (search needs)
+
+slice-relend-prefix-apply-6 : tie.Need-slice-relend-prefix-apply-6
+slice-relend-prefix-apply-6 c = search needs
+
+slice-aggregate-apply-6 : tie.Need-slice-aggregate-apply-6
+slice-aggregate-apply-6 c = front _ _ (search needs)
+
+slice-relend-prefix-apply-7 : tie.Need-slice-relend-prefix-apply-7
+slice-relend-prefix-apply-7 c = search needs
+
+slice-aggregate-apply-7 : tie.Need-slice-aggregate-apply-7
+slice-aggregate-apply-7 c = front _ _ (search needs)
+
+slice-relend-prefix-apply-8 : tie.Need-slice-relend-prefix-apply-8
+slice-relend-prefix-apply-8 c = search needs
+
+slice-aggregate-apply-8 : tie.Need-slice-aggregate-apply-8
+slice-aggregate-apply-8 c = front _ _ (search needs)
+
+slice-relend-prefix-apply-9 : tie.Need-slice-relend-prefix-apply-9
+slice-relend-prefix-apply-9 c = search needs
+
+slice-aggregate-apply-9 : tie.Need-slice-aggregate-apply-9
+slice-aggregate-apply-9 c = front _ _ (search needs)
+
+slice-relend-prefix-apply-10 : tie.Need-slice-relend-prefix-apply-10
+slice-relend-prefix-apply-10 c = search needs
+
+slice-aggregate-apply-10 : tie.Need-slice-aggregate-apply-10
+slice-aggregate-apply-10 c = front _ _ (search needs)
+
+apply-requires : tie.Need-apply-requires
+apply-requires c κs = search needs
+
+same-length : tie.Need-same-length
+same-length c = search needs
+
+same-length-2 : tie.Need-same-length-2
+same-length-2 c = search needs
+
+same-length-3 : tie.Need-same-length-3
+same-length-3 c = search needs
+
+same-length-4 : tie.Need-same-length-4
+same-length-4 c = search needs
+
+same-length-5 : tie.Need-same-length-5
+same-length-5 c = search needs
+
+same-length-6 : tie.Need-same-length-6
+same-length-6 c = search needs
+
+same-length-7 : tie.Need-same-length-7
+same-length-7 c = search needs
+
+same-length-8 : tie.Need-same-length-8
+same-length-8 c = search needs
+
+same-length-9 : tie.Need-same-length-9
+same-length-9 c = search needs
+
+same-length-10 : tie.Need-same-length-10
+same-length-10 c = search needs
+
+returns : tie.Need-returns
+returns c =
+    let at-apply = c .before .before .before .before .before .before .before .before .before .before .before .before .before .before .before .before .before .before .before .apply in
+    let at-within10 = c .before .before .before .before .before .before .before .before .before .before .before .before .before .before .before .before .before .before .before .before .before .before .before .before .before .before .before .before .before .before .within10 in
+    let at-within9 = c .before .before .before .before .before .before .before .before .before .before .before .before .before .before .before .before .before .before .before .before .before .before .before .before .before .before .before .before .before .before .before .within9 in
+    let at-within8 = c .before .before .before .before .before .before .before .before .before .before .before .before .before .before .before .before .before .before .before .before .before .before .before .before .before .before .before .before .before .before .before .before .within8 in
+    let at-within7 = c .before .before .before .before .before .before .before .before .before .before .before .before .before .before .before .before .before .before .before .before .before .before .before .before .before .before .before .before .before .before .before .before .before .within7 in
+    let at-within6 = c .before .before .before .before .before .before .before .before .before .before .before .before .before .before .before .before .before .before .before .before .before .before .before .before .before .before .before .before .before .before .before .before .before .before .within6 in
+    let at-within5 = c .before .before .before .before .before .before .before .before .before .before .before .before .before .before .before .before .before .before .before .before .before .before .before .before .before .before .before .before .before .before .before .before .before .before .before .within5 in
+    let at-within4 = c .before .before .before .before .before .before .before .before .before .before .before .before .before .before .before .before .before .before .before .before .before .before .before .before .before .before .before .before .before .before .before .before .before .before .before .before .within4 in
+    let at-within3 = c .before .before .before .before .before .before .before .before .before .before .before .before .before .before .before .before .before .before .before .before .before .before .before .before .before .before .before .before .before .before .before .before .before .before .before .before .before .within3 in
+    let at-within2 = c .before .before .before .before .before .before .before .before .before .before .before .before .before .before .before .before .before .before .before .before .before .before .before .before .before .before .before .before .before .before .before .before .before .before .before .before .before .before .within2 in
+    let at-within = c .before .before .before .before .before .before .before .before .before .before .before .before .before .before .before .before .before .before .before .before .before .before .before .before .before .before .before .before .before .before .before .before .before .before .before .before .before .before .before .within in
+    lend-is _ _ _ (at-apply .result) _ _ _ _ (λ i. record { matrices = at-within .ensures .1 i; viewports = at-within2 .ensures .1 i; scales = at-within3 .ensures .1 i; lights = at-within4 .ensures .1 i; lookats = at-within5 .ensures .1 i; fogs = at-within6 .ensures .1 i; floats = at-within7 .ensures .1 i; words = at-within8 .ensures .1 i; indices = at-within9 .ensures .1 i; runs = at-within10 .ensures .1 i }) (at-apply .ensures)
+
+pub lend-spec : {M : Type 1} → statement M
+lend-spec =
+    tie.close
+    (tie.spec
+    within-requires
+    within-requires-2
+    within-requires-3
+    within-requires-4
+    within-requires-5
+    within-requires-6
+    within-requires-7
+    within-requires-8
+    within-requires-9
+    within-requires-10
+    slice-relend-prefix-apply
+    slice-aggregate-apply
+    slice-relend-prefix-apply-2
+    slice-aggregate-apply-2
+    slice-relend-prefix-apply-3
+    slice-aggregate-apply-3
+    slice-relend-prefix-apply-4
+    slice-aggregate-apply-4
+    slice-relend-prefix-apply-5
+    slice-aggregate-apply-5
+    slice-relend-prefix-apply-6
+    slice-aggregate-apply-6
+    slice-relend-prefix-apply-7
+    slice-aggregate-apply-7
+    slice-relend-prefix-apply-8
+    slice-aggregate-apply-8
+    slice-relend-prefix-apply-9
+    slice-aggregate-apply-9
+    slice-relend-prefix-apply-10
+    slice-aggregate-apply-10
+    apply-requires
+    same-length
+    same-length-2
+    same-length-3
+    same-length-4
+    same-length-5
+    same-length-6
+    same-length-7
+    same-length-8
+    same-length-9
+    same-length-10
+    returns)

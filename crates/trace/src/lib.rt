@@ -1,0 +1,5 @@
+// A trace: its header, its ops and what follows each, read from a script.
+pub mod header;
+pub mod ops;
+pub mod rooms;
+pub mod script;
