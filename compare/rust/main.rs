@@ -4,44 +4,7 @@
 //! accepts or refuses with 1 to 5; elsewhere it prints what happened in a word, which equals no answer.
 #![allow(dead_code, unused_imports, unused_macros, private_interfaces)]
 mod dump;
-mod scene;
-mod stand_ins;
-mod hle {
-    pub mod blender;
-    pub mod consts;
-    pub mod gbi;
-    pub mod math;
-    pub mod mem;
-    pub mod rsp;
-    pub use crate::stand_ins::{combiner, framebuffer_load, interp, rdp, rsp_f3dex2, rsp_s2dex2};
-    pub use blender::BlendClass;
-}
-use stand_ins::{diag, inspect, profiling, render};
-pub use diag::{DiagKind, Diagnostic, FramebufferAccess};
-
-use hle::gbi::GbiUcode;
-use hle::mem::{GbiDataFormat, MemoryError, Rdram, RdramImage};
-use hle::rdp::Rdp;
-use hle::rsp::Rsp;
-use scene::{PrimitiveDepth, Scene};
-use std::io::Read;
-
-#[derive(Clone, Copy, Debug, PartialEq, Eq)]
-pub enum Microcode {
-    F3dex2,
-    F3dex2NoN,
-    Other,
-}
-
-impl From<GbiUcode> for Microcode {
-    fn from(which: GbiUcode) -> Self {
-        match which {
-            GbiUcode::F3dex2 => Microcode::F3dex2,
-            GbiUcode::F3dex2NoN => Microcode::F3dex2NoN,
-            _ => Microcode::Other,
-        }
-    }
-}
+include!("frame.rs");
 
 /// The original and what it writes into; `ever` is kept for the dump, since it has no empty slots.
 pub struct Original {

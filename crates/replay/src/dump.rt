@@ -32,6 +32,14 @@ fn line(name: &[u8], xs: &[f32]) {
     show::end();
 }
 
+fn projection_line(projection: [f32; 16]) {
+    line(b"proj", &projection);
+}
+
+fn viewport_line(viewport: [f32; 6]) {
+    line(b"vp", &viewport);
+}
+
 fn light_lines(l: Lights) {
     let directions = l.directions;
     let colours = l.colours;
@@ -52,8 +60,8 @@ fn state_lines(s: State) {
     let viewport = s.viewport;
     settings(s);
     tables::of_singles(b"stack", &stack, 16, s.depth);
-    line(b"proj", &projection);
-    line(b"vp", &viewport);
+    projection_line(projection);
+    viewport_line(viewport);
     light_lines(s.lights);
     lookat_lines(s.lookat);
 }
