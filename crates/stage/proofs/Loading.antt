@@ -41,7 +41,7 @@ use Rattle.stage.specs.Load.{settled, settledState, lightsThen, lookatTh
 use Rattle.stage.specs.Sound.{stateSound, limit}
 use Rattle.stage.specs.Rows.{fillSlots}
 use Rattle.stage.specs.With.{withCounts, withCombined, withLights, withLookat}
-use Rattle.stage.specs.Steps.{sixLent, roomsOf, moreBy, noMore, earlyAnswer, Ranged, TablesAre, RowsFit, RowsLaid}
+use Rattle.stage.specs.Steps.{sixLent, roomsOf, moreBy, noMore, earlyAnswer, lateAnswer, advanceTables, Ranged, TablesAre, RowsFit, RowsLaid}
 use Rattle.stage.proofs.Judged.{Ranges, ranges, and-right}
 use Rattle.stage.proofs.Tabled.{Numbered, fits-first, table-refused, table-passed}
 use Rattle.stage.proofs.Cascade.{refused, passed}
@@ -129,28 +129,13 @@ rows-words : (e : Shared) (vs : List Vertex) → map (λ r. r .words) (map (vert
 rows-words e [] = refl
 rows-words e (v ∷ vs) = ap (λ (r : List (List ℕ)). wordsOf e v ∷ r) (rows-words e vs)
 
--- the counts, rows included
-abbrev pub withRowCount : Counts → ℕ → Counts
-withRowCount c n =
-    record {
-      matrices = c .matrices;
-      viewports = c .viewports;
-      scales = c .scales;
-      lights = c .lights;
-      lookats = c .lookats;
-      fogs = c .fogs;
-      rows = n;
-      indices = c .indices;
-      runs = c .runs;
-    }
-
-module _ (s s′ t : State) (d : Settled) (e : Shared) (m : List (List Float)) (c : Counts) (vs : List Vertex) (first count notice : ℕ) (l k : LoadAreas)
+module _ (s s′ t : State) (d : Settled) (e : Shared) (m : List (List Float)) (c : Counts) (vs : List Vertex) (first count : ℕ) (a : Answer) (l k : LoadAreas)
     (is-state : s′ ≡ settledState d s)
     (is-shared : e ≡ sharedBy d s)
     (is-matrix : m ≡ rows (d .combined) 0)
-    (tables : TablesAre d s (loadEdits d s []) c (l .matrices) (l .scales) (l .lights) (l .lookats) (l .fogs) (k .matrices) (k .scales) (k .lights) (k .lookats) (k .fogs))
+    (tables : TablesAre d s count (loadEdits d s []) c (l .matrices) (l .scales) (l .lights) (l .lookats) (l .fogs) (k .matrices) (k .scales) (k .lights) (k .lookats) (k .fogs))
     (laid : RowsLaid s′ m e first vs (l .floats) (l .words) t (k .floats) (k .words))
-    (is-notice : notice ≡ pick (s .defined) 0 1)
+    (is-answer : a ≡ Told (pick (s .defined) 0 1))
     (is-count : length vs ≡ count) where
   kept : s′ .counts ≡ s .counts
   unfolding settledState
@@ -159,12 +144,9 @@ module _ (s s′ t : State) (d : Settled) (e : Shared) (m : List (List Float)) (
   base : s′ .counts .rows ≡ s .counts .rows
   base = ap (λ (x : Counts). x .rows) kept
 
-  counts-then : withRowCount c (c .rows + count) ≡ advance (loadEdits d s vs) (s .counts)
+  counts-then : c ≡ advance (loadEdits d s vs) (s .counts)
   unfolding loadEdits
-  counts-then = λ i. withRowCount (tables .counts i) (rows-then i)
-    where
-      rows-then : c .rows + count ≡ s .counts .rows + length (map (vertexRow (sharedBy d s)) vs)
-      rows-then = ap₂ (λ (a b : ℕ). a + b) (ap (λ (x : Counts). x .rows) (tables .counts)) (sym is-count ∙ sym (length-map vs (vertexRow (sharedBy d s))))
+  counts-then = tables .counts ∙ ap (λ (n : ℕ). advanceTables (loadEdits d s []) n (s .counts)) (sym is-count ∙ sym (length-map vs (vertexRow (sharedBy d s))))
 
   state-then : t ≡ fillSlots (settledState d s) (rows (d .combined) 0) (sharedBy d s) first (s .counts .rows) vs
   state-then =
@@ -187,23 +169,24 @@ module _ (s s′ t : State) (d : Settled) (e : Shared) (m : List (List Float)) (
       ∙ ap (λ (x : Shared). write wordWidth (s .counts .rows) (map (wordsOf x) vs) (l .words)) is-shared
       ∙ ap (λ (es : List (List ℕ)). write wordWidth (s .counts .rows) es (l .words)) (sym (rows-words (sharedBy d s) vs))
 
-  pub load-done : outcome (record { state = withCounts t (withRowCount c (c .rows + count)); answer = Told notice }) k
-      ≡ carry areasLoad (loadDone d s first vs) s l
+  pub load-done : outcome (record { state = withCounts t c; answer = a }) k ≡ carry areasLoad (loadDone d s first vs) s l
   unfolding carry loadEdits
-  load-done = λ i. record {
-    state = withCounts (state-then i) (counts-then i);
-    number = 0;
-    values = is-notice i ∷ [];
-    areas = record {
-      matrices = tables .matrices i;
-      scales = tables .scales i;
-      lights = tables .lights i;
-      lookats = tables .lookats i;
-      fogs = tables .fogs i;
-      floats = floats-then i;
-      words = words-then i;
-    };
-  }
+  load-done =
+      ap (λ (x : Answer). outcome (record { state = withCounts t c; answer = x }) k) is-answer
+      ∙ λ i. record {
+        state = withCounts (state-then i) (counts-then i);
+        number = 0;
+        values = pick (s .defined) 0 1 ∷ [];
+        areas = record {
+          matrices = tables .matrices i;
+          scales = tables .scales i;
+          lights = tables .lights i;
+          lookats = tables .lookats i;
+          fogs = tables .fogs i;
+          floats = floats-then i;
+          words = words-then i;
+        };
+      }
 
 -- ---- what the tests of a load show, in their order
 
@@ -214,28 +197,31 @@ pub record Judged (s : State) (first count at : ℕ) (bytes : List ℕ) : Type 0
   pub reach : leb (at + 16 * count) (length bytes) ≡ true
 
 -- these, and the rooms are the areas'
-pub record Roomed (s : State) (l : LoadAreas) (first count at : ℕ) (bytes : List ℕ) : Type 0 where
+pub record Roomed (s : State) (l : LoadAreas) (first count at : ℕ) (bytes : List ℕ) (rooms : Rooms) : Type 0 where
   pub judged : Judged s first count at bytes
-  pub rooms : Rooms
   pub is-rooms : rooms ≡ roomsOf (length (l .matrices)) (length (l .scales)) (length (l .lights)) (length (l .lookats)) (length (l .fogs)) (length (l .floats)) (length (l .words))
 
 -- the first table that has less room than it holds, or 0
 abbrev pub shortOf : State → Rooms → ℕ
 shortOf s r = firstShort (sixLent (s .counts) noMore r)
 
--- these, no table is short, and full is the first that has less room than it is to hold, or 0
-pub record Sized (s : State) (l : LoadAreas) (first count at : ℕ) (bytes : List ℕ) (d : Settled) (full : ℕ) : Type 0 where
-  pub roomed : Roomed s l first count at bytes
-  pub fits : shortOf s (roomed .rooms) ≡ 0
+-- the first table that has less room than it is to hold, or 0
+abbrev pub fullOf : State → Settled → ℕ → Rooms → ℕ
+fullOf s d count r = firstShort (sixLent (s .counts) (moreBy d s count) r)
+
+-- these, no table is short, and all is settled
+pub record Sized (s : State) (l : LoadAreas) (first count at : ℕ) (bytes : List ℕ) (rooms : Rooms) (d : Settled) : Type 0 where
+  pub roomed : Roomed s l first count at bytes rooms
+  pub fits : shortOf s rooms ≡ 0
   pub is-settled : d ≡ settled (familyOf (s .microcode)) s (entries matrixWidth (s .counts .matrices) (l .matrices)) (entries scaleWidth (s .counts .scales) (l .scales)) (entries fogWidth (s .counts .fogs) (l .fogs))
-  pub more : More
-  pub is-more : more ≡ moreBy d s count
-  pub is-full : full ≡ firstShort (sixLent (s .counts) more (roomed .rooms))
 
 -- ---- the load's ways out, each by the tests that lead there
 module _ (s : State) (l : LoadAreas) (first count at : ℕ) (bytes : List ℕ) where
   abbrev load-plan : Plan
   load-plan = loadPlan (familyOf (s .microcode)) (limit s) s (loadTables (s .counts) l) first count bytes at
+
+  abbrev Refuses : Answer → Type 0
+  Refuses a = outcome (record { state = s; answer = a }) l ≡ carry areasLoad load-plan s l
 
   way-state : stateSound s ≡ false → outcome (record { state = s; answer = BadState }) l ≡ carry areasLoad load-plan s l
   unfolding loadPlan
@@ -256,31 +242,28 @@ module _ (s : State) (l : LoadAreas) (first count at : ℕ) (bytes : List ℕ) w
   numbered : (e : Edits) (m : More) (r : Rooms) → tables e ≡ sixLent (s .counts) m r → Numbered (tables e)
   numbered e m r h = subst Numbered (sym h) (six-numbered (s .counts) m r)
 
-  module _ (t : Roomed s l first count at bytes) where
-    eight : tables untouched ≡ sixLent (s .counts) noMore (t .rooms)
-    eight = six-lent (s .counts) l untouched noMore (t .rooms) (t .is-rooms) refl
+  module _ (r : Rooms) (t : Roomed s l first count at bytes r) where
+    eight : tables untouched ≡ sixLent (s .counts) noMore r
+    eight = six-lent (s .counts) l untouched noMore r (t .is-rooms) refl
 
-    way-short : (shortOf s (t .rooms) ≡ 0 → ⊥) → outcome (record { state = s; answer = ShortArea (shortOf s (t .rooms)) }) l ≡ carry areasLoad load-plan s l
+    way-short : (shortOf s r ≡ 0 → ⊥) → outcome (record { state = s; answer = ShortArea (shortOf s r) }) l ≡ carry areasLoad load-plan s l
     unfolding loadPlan
     way-short h =
         passed areasLoad s l _ _ _ _ _ (t .judged .sound)
         (passed areasLoad s l _ _ _ _ _ (t .judged .slots)
         (passed areasLoad s l _ _ _ _ _ (t .judged .reach)
-        (table-refused areasLoad s l 8 (tables untouched) _ (ShortArea (shortOf s (t .rooms))) (shortOf s (t .rooms)) (numbered untouched noMore (t .rooms) eight) (ap firstShort (sym eight)) h refl refl)))
+        (table-refused areasLoad s l 8 (tables untouched) _ (ShortArea (shortOf s r)) (shortOf s r) (numbered untouched noMore r eight) (ap firstShort (sym eight)) h refl refl)))
 
-    to-eight : shortOf s (t .rooms) ≡ 0 → (p : Plan) (o : Outcome LoadAreas) → o ≡ carry areasLoad p s l → o ≡ carry areasLoad (judge 8 (tables untouched) p) s l
-    to-eight z p o h = table-passed areasLoad s l 8 (tables untouched) p o (shortOf s (t .rooms)) (numbered untouched noMore (t .rooms) eight) (ap firstShort (sym eight)) z h
+    to-eight : shortOf s r ≡ 0 → (p : Plan) (o : Outcome LoadAreas) → o ≡ carry areasLoad p s l → o ≡ carry areasLoad (judge 8 (tables untouched) p) s l
+    to-eight z p o h = table-passed areasLoad s l 8 (tables untouched) p o (shortOf s r) (numbered untouched noMore r eight) (ap firstShort (sym eight)) z h
 
   -- the early answer, by its four tests
   module _ (r : Rooms) (is-rooms : r ≡ roomsOf (length (l .matrices)) (length (l .scales)) (length (l .lights)) (length (l .lookats)) (length (l .fogs)) (length (l .floats)) (length (l .words))) where
     abbrev answered : Bool → Bool → Bool → Bool → Answer
     answered b₁ b₂ b₃ b₄ = pick b₁ (pick b₂ (pick b₃ (pick b₄ Done (ShortArea (shortOf s r))) (ShortData (16 * count))) (BadLoad count first)) BadState
 
-    abbrev judgement : stateSound s ≡ true → (leb count 256 && leb (first + count) 256) ≡ true → leb (at + 16 * count) (length bytes) ≡ true → Roomed s l first count at bytes
-    judgement e₁ e₂ e₃ = record { judged = record { sound = e₁; slots = e₂; reach = e₃ }; rooms = r; is-rooms = is-rooms }
-
-    abbrev Refuses : Answer → Type 0
-    Refuses a = outcome (record { state = s; answer = a }) l ≡ carry areasLoad load-plan s l
+    abbrev judgement : stateSound s ≡ true → (leb count 256 && leb (first + count) 256) ≡ true → leb (at + 16 * count) (length bytes) ≡ true → Roomed s l first count at bytes r
+    judgement e₁ e₂ e₃ = record { judged = record { sound = e₁; slots = e₂; reach = e₃ }; is-rooms = is-rooms }
 
     -- the tags of every answer but Done
     abbrev others : List ℕ
@@ -292,7 +275,7 @@ module _ (s : State) (l : LoadAreas) (first count at : ℕ) (bytes : List ℕ) w
     refuses false b₂ b₃ b₄ e₁ e₂ e₃ e₄ o = way-state e₁
     refuses true false b₃ b₄ e₁ e₂ e₃ e₄ o = way-slots e₁ e₂
     refuses true true false b₄ e₁ e₂ e₃ e₄ o = way-data e₁ e₂ e₃
-    refuses true true true false e₁ e₂ e₃ e₄ o = way-short (judgement e₁ e₂ e₃) (eqb-false _ _ e₄)
+    refuses true true true false e₁ e₂ e₃ e₄ o = way-short r (judgement e₁ e₂ e₃) (eqb-false _ _ e₄)
     refuses true true true true e₁ e₂ e₃ e₄ o = absurd (miss others 0 tt o)
 
     goes-on : (b₁ b₂ b₃ b₄ : Bool) → stateSound s ≡ b₁ → (leb count 256 && leb (first + count) 256) ≡ b₂ → leb (at + 16 * count) (length bytes) ≡ b₃ → eqb (shortOf s r) 0 ≡ b₄
@@ -314,12 +297,15 @@ module _ (s : State) (l : LoadAreas) (first count at : ℕ) (bytes : List ℕ) w
     unfolding earlyAnswer
     passed-early a q o = goes-on _ _ _ _ refl refl refl refl (sym (ap (tagOf the-type) q) ∙ o)
 
-  module _ (d : Settled) (full : ℕ) (z : Sized s l first count at bytes d full) where
+  module _ (r : Rooms) (d : Settled) (z : Sized s l first count at bytes r d) where
     abbrev vs : List Vertex
     vs = verticesAt bytes at count
 
-    nine : tables (loadEdits d s vs) ≡ sixLent (s .counts) (z .more) (z .roomed .rooms)
-    nine = six-lent (s .counts) l (loadEdits d s vs) (z .more) (z .roomed .rooms) (z .roomed .is-rooms) (load-more d s vs count (length-vertices bytes at count) ∙ sym (z .is-more))
+    abbrev full : ℕ
+    full = fullOf s d count r
+
+    nine : tables (loadEdits d s vs) ≡ sixLent (s .counts) (moreBy d s count) r
+    nine = six-lent (s .counts) l (loadEdits d s vs) (moreBy d s count) r (z .roomed .is-rooms) (load-more d s vs count (length-vertices bytes at count))
 
     abbrev judged-nine : Settled → Plan
     judged-nine x = judge 9 (tables (loadEdits x s vs)) (loadDone x s first vs)
@@ -331,21 +317,52 @@ module _ (s : State) (l : LoadAreas) (first count at : ℕ) (bytes : List ℕ) w
         passed areasLoad s l _ _ _ _ o (j .sound)
         (passed areasLoad s l _ _ _ _ o (j .slots)
         (passed areasLoad s l _ _ _ _ o (j .reach)
-        (to-eight (z .roomed) (z .fits) _ o
+        (to-eight r (z .roomed) (z .fits) _ o
         (h ∙ ap (λ (x : Settled). carry areasLoad (judged-nine x) s l) (z .is-settled)))))
 
-    pub way-full : (full ≡ 0 → ⊥) → outcome (record { state = s; answer = NoRoom full }) l ≡ carry areasLoad load-plan s l
-    way-full h = to-nine _ (table-refused areasLoad s l 9 (tables (loadEdits d s vs)) (loadDone d s first vs) (NoRoom full) full (numbered (loadEdits d s vs) (z .more) (z .roomed .rooms) nine) (z .is-full ∙ ap firstShort (sym nine)) h refl refl)
+    numbered-nine : Numbered (tables (loadEdits d s vs))
+    numbered-nine = numbered (loadEdits d s vs) (moreBy d s count) r nine
+
+    way-full : (full ≡ 0 → ⊥) → Refuses (NoRoom full)
+    way-full h = to-nine _ (table-refused areasLoad s l 9 (tables (loadEdits d s vs)) (loadDone d s first vs) (NoRoom full) full numbered-nine (ap firstShort (sym nine)) h refl refl)
 
     pub way-done : full ≡ 0 → (o : Outcome LoadAreas) → o ≡ carry areasLoad (loadDone d s first vs) s l → o ≡ carry areasLoad load-plan s l
-    way-done e o h = to-nine o (table-passed areasLoad s l 9 (tables (loadEdits d s vs)) (loadDone d s first vs) o full (numbered (loadEdits d s vs) (z .more) (z .roomed .rooms) nine) (z .is-full ∙ ap firstShort (sym nine)) e h)
+    way-done e o h = to-nine o (table-passed areasLoad s l 9 (tables (loadEdits d s vs)) (loadDone d s first vs) o full numbered-nine (ap firstShort (sym nine)) e h)
+
+    -- the late answer, by its one test
+    abbrev told : ℕ
+    told = pick (s .defined) 0 1
+
+    -- the tags of every answer but Told
+    abbrev untold : List ℕ
+    untold = 0 ∷ 2 ∷ 3 ∷ 4 ∷ 5 ∷ 6 ∷ 7 ∷ 8 ∷ 9 ∷ 10 ∷ 11 ∷ []
+
+    late-refuses : (b : Bool) → eqb full 0 ≡ b → OneOf untold (tagOf the-type (pick b (Told told) (NoRoom full))) → Refuses (pick b (Told told) (NoRoom full))
+    unfolding pick
+    late-refuses false e o = way-full (eqb-false _ _ e)
+    late-refuses true e o = absurd (miss untold 1 tt o)
+
+    late-goes-on : (b : Bool) → eqb full 0 ≡ b → tagOf the-type (pick b (Told told) (NoRoom full)) ≡ 1 → (full ≡ 0) × (pick b (Told told) (NoRoom full) ≡ Told told)
+    unfolding pick
+    late-goes-on false e o = absurd (let z : _≡_ {A = ℕ} 10 1 = o in omega arith)
+    late-goes-on true e o = (eqb-true _ _ e, refl)
+
+    -- a late answer that is not Told is the load's
+    pub way-late : (a : Answer) → a ≡ lateAnswer d s count r → OneOf untold (tagOf the-type a) → Refuses a
+    unfolding lateAnswer
+    way-late a q o = subst Refuses (sym q) (late-refuses _ refl (subst (λ (x : Answer). OneOf untold (tagOf the-type x)) q o))
+
+    -- where it is, no table is full, and it tells of the matrix
+    pub passed-late : (a : Answer) → a ≡ lateAnswer d s count r → tagOf the-type a ≡ 1 → (full ≡ 0) × (a ≡ Told told)
+    unfolding lateAnswer
+    passed-late a q o = let h = late-goes-on _ refl (sym (ap (tagOf the-type) q) ∙ o) in (h .0, q ∙ h .1)
 
     -- what the writing half asks for
-    pub load-ready : full ≡ 0 → Ranged s d × RowsFit s first count at bytes (l .floats) (l .words)
+    pub load-ready : full ≡ 0 → Ranged s d × RowsFit (s .counts .rows) first count at bytes (l .floats) (l .words)
     unfolding roomsOf
     load-ready e =
         let j = z .roomed .judged in
-        let g = fits-rows (s .counts) d s (z .more) (z .roomed .rooms) count (length (l .floats)) (length (l .words)) (z .is-more) (ap (λ (x : Rooms). x .rows) (z .roomed .is-rooms)) (sym (z .is-full) ∙ e) in (
+        let g = fits-rows (s .counts) d s (moreBy d s count) r count (length (l .floats)) (length (l .words)) refl (ap (λ (x : Rooms). x .rows) (z .roomed .is-rooms)) e in (
           ranged s d _ _ _ _ refl (z .is-settled) (ranges s (j .sound)),
           record {
             slots = leb-true _ _ (and-right (leb count 256) (leb (first + count) 256) (j .slots));
@@ -363,8 +380,3 @@ pub settled-then : (s : State) (d : Settled) {l : Lights} {o : Lookat} → l ≡
     → withLookat (withLights (withCombined s (d .combined) (s .defined)) l) o ≡ settledState d s
 unfolding settledState
 settled-then s d p q = λ i. withLookat (withLights (withCombined s (d .combined) (s .defined)) (p i)) (q i)
-
--- the count of rows then
-pub rows-count : (s : State) (d : Settled) (e : Edits) (c : Counts) (a b l o : List Float) (f : List ℤ) (a′ b′ l′ o′ : List Float) (f′ : List ℤ) (first count at : ℕ) (bs : List ℕ) (x : List Float) (w : List ℕ)
-    → TablesAre d s e c a b l o f a′ b′ l′ o′ f′ → RowsFit s first count at bs x w → c .rows + count ≤ most
-rows-count s d e c a b l o f a′ b′ l′ o′ f′ first count at bs x w t h = subst (λ (n : ℕ). n + count ≤ most) (sym (ap (λ (y : Counts). y .rows) (t .counts))) (h .rows)

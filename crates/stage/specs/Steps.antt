@@ -28,7 +28,7 @@ use Rattle.triangle.specs.declared.verdict.Verdict.the-variants as verdict
 use Rattle.stage.specs.declared.State.{State}
 use Rattle.stage.specs.declared.Counts.{Counts}
 use Rattle.stage.specs.declared.Answer.{Answer}
-use Rattle.stage.specs.declared.Answer.the-variants.{Done, BadLoad, BadModify, NeverLoaded, ShortData, ShortArea, NoRoom, BadState}
+use Rattle.stage.specs.declared.Answer.the-variants.{Done, Told, BadLoad, BadModify, NeverLoaded, ShortData, ShortArea, NoRoom, BadState}
 use Rattle.stage.specs.declared.load.Settled.{Settled}
 use Rattle.stage.specs.declared.load.More.{More}
 use Rattle.stage.specs.declared.load.Rooms.{Rooms}
@@ -59,9 +59,9 @@ countAfter append.Full n = n
 
 -- ---- load
 
--- the counts of the tables that are settled before the rows
-abbrev pub advanceTables : Edits → Counts → Counts
-advanceTables e c =
+-- the counts of the tables that are settled before the rows, and of n rows more
+abbrev pub advanceTables : Edits → ℕ → Counts → Counts
+advanceTables e n c =
     record {
       matrices = counted (e .matrices) (c .matrices);
       viewports = c .viewports;
@@ -69,7 +69,7 @@ advanceTables e c =
       lights = counted (e .lights) (c .lights);
       lookats = counted (e .lookats) (c .lookats);
       fogs = counted (e .fogs) (c .fogs);
-      rows = c .rows;
+      rows = c .rows + n;
       indices = c .indices;
       runs = c .runs;
     }
@@ -84,9 +84,9 @@ pub record Ranged (s : State) (d : Settled) : Type 0 where
   pub number : s .lights .number ≤ 7
   pub place : d .fogat ≤ most
 
--- the tables before the rows, settled: counts and areas
-pub record TablesAre (d : Settled) (s : State) (e : Edits) (c : Counts) (a b l o : List Float) (f : List ℤ) (a′ b′ l′ o′ : List Float) (f′ : List ℤ) : Type 0 where
-  pub counts : c ≡ advanceTables e (s .counts)
+-- the tables before the rows, settled: areas, and counts with the rows that come
+pub record TablesAre (d : Settled) (s : State) (count : ℕ) (e : Edits) (c : Counts) (a b l o : List Float) (f : List ℤ) (a′ b′ l′ o′ : List Float) (f′ : List ℤ) : Type 0 where
+  pub counts : c ≡ advanceTables e count (s .counts)
   pub matrices : a′ ≡ afterIn matrixArea (s .counts) e a
   pub scales : b′ ≡ afterIn scaleArea (s .counts) e b
   pub lights : l′ ≡ afterIn lightArea (s .counts) e l
@@ -129,13 +129,19 @@ earlyAnswer s first count len at r =
     (BadLoad count first))
     BadState
 
--- what has been judged before the first row is written: the slots, the bytes, the count of rows, and room in both areas
-pub record RowsFit (s : State) (first count at : ℕ) (b : List ℕ) (f : List Float) (w : List ℕ) : Type 0 where
+-- the answer of a load that is due once all is settled: what is told of the matrix, or the first table that is full
+unfoldable pub lateAnswer : Settled → State → ℕ → Rooms → Answer
+lateAnswer d s count r =
+    let full = firstShort (sixLent (s .counts) (moreBy d s count) r) in
+    pick (eqb full 0) (Told (pick (s .defined) 0 1)) (NoRoom full)
+
+-- what has been judged before the first row is written, behind n rows in use: the slots, the bytes, the count of rows, and room in both areas
+pub record RowsFit (n first count at : ℕ) (b : List ℕ) (f : List Float) (w : List ℕ) : Type 0 where
   pub slots : first + count ≤ 256
   pub bytes : at + 16 * count ≤ length b
-  pub rows : s .counts .rows + count ≤ most
-  pub floats : (s .counts .rows + count) * floatWidth ≤ length f
-  pub words : (s .counts .rows + count) * wordWidth ≤ length w
+  pub rows : n + count ≤ most
+  pub floats : (n + count) * floatWidth ≤ length f
+  pub words : (n + count) * wordWidth ≤ length w
 
 -- what the state s and the areas f and w have become, once the vertices vs have their rows behind those in use and their slots from first on
 pub record RowsLaid (s : State) (m : List (List Float)) (e : Shared) (first : ℕ) (vs : List Vertex) (f : List Float) (w : List ℕ) (s′ : State) (f′ : List Float) (w′ : List ℕ) : Type 0 where

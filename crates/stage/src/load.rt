@@ -4,14 +4,14 @@ ghost use mathlib.Core.List.{[]};
 ghost use Prim.Native.Nat.{_+_, _*_, _≤_, min};
 ghost use lib.ListN.{length};
 ghost use Rattle.areas.specs.Area.{entries};
-ghost use Rattle.areas.specs.Widths.{matrixWidth, scaleWidth, fogWidth};
+ghost use Rattle.areas.specs.Widths.{most, matrixWidth, scaleWidth, fogWidth};
 ghost use Rattle.matrix.specs.Math.{rows, laid, times};
 ghost use Rattle.decide.specs.Family.{familyOf};
 ghost use Rattle.decide.specs.Steps.{firstShort};
 ghost use Rattle.stage.specs.Plan.{outcome, pick};
 ghost use Rattle.stage.specs.With.{foldedLights, foldedLookat};
 ghost use Rattle.stage.specs.Load.{settled, sharedBy, loadEdits, loadAreas, loadMeans};
-ghost use Rattle.stage.specs.Steps.{Ranged, TablesAre, roomsOf, sixLent, moreBy, noMore, earlyAnswer};
+ghost use Rattle.stage.specs.Steps.{Ranged, TablesAre, roomsOf, sixLent, moreBy, noMore, earlyAnswer, lateAnswer};
 use crate::Answer;
 use crate::Answered;
 use crate::Counts;
@@ -72,27 +72,27 @@ fn lesser(a: usize, b: usize) -> usize
     if a < b { a } else { b }
 }
 
-// The rooms of the lent areas. A row lies in two of them, and has the lesser room.
+// The rooms of the lent areas, by their lengths. A row lies in two of them, and has the lesser room.
 fn rooms_of(
-    matrices: &[f32],
-    scales: &[f32],
-    lights: &[f32],
-    lookats: &[f32],
-    fogs: &[i16],
-    floats: &[f32],
-    words: &[u32],
+    matrices: usize,
+    scales: usize,
+    lights: usize,
+    lookats: usize,
+    fogs: usize,
+    floats: usize,
+    words: usize,
 ) -> Rooms
-    ensures { λ r. ⌜ r ≡ roomsOf (length (now (matrices .entry))) (length (now (scales .entry))) (length (now (lights .entry))) (length (now (lookats .entry))) (length (now (fogs .entry))) (length (now (floats .entry))) (length (now (words .entry))) ⌝ }
+    ensures { λ r. ⌜ r ≡ roomsOf matrices scales lights lookats fogs floats words ⌝ }
 {
     Rooms {
-        matrices: areas::room_of(MATRIX_WIDTH, matrices.len()),
-        scales: areas::room_of(SCALE_WIDTH, scales.len()),
-        lights: areas::room_of(LIGHT_WIDTH, lights.len()),
-        lookats: areas::room_of(LOOKAT_WIDTH, lookats.len()),
-        fogs: areas::room_of(FOG_WIDTH, fogs.len()),
+        matrices: areas::room_of(MATRIX_WIDTH, matrices),
+        scales: areas::room_of(SCALE_WIDTH, scales),
+        lights: areas::room_of(LIGHT_WIDTH, lights),
+        lookats: areas::room_of(LOOKAT_WIDTH, lookats),
+        fogs: areas::room_of(FOG_WIDTH, fogs),
         rows: lesser(
-            areas::room_of(FLOAT_WIDTH, floats.len()),
-            areas::room_of(WORD_WIDTH, words.len()),
+            areas::room_of(FLOAT_WIDTH, floats),
+            areas::room_of(WORD_WIDTH, words),
         ),
     }
 }
@@ -274,20 +274,23 @@ impl State {
         }
     }
 
-    // The tables before the rows written: their counts then. Asks for counts and a light number in their ranges.
+    // The tables before the rows written: the counts then, of the load's rows too. Asks for counts and a light number in
+    // their ranges.
     fn tables_written(
         self,
         d: Settled,
+        count: u32,
         matrices: &mut [f32],
         scales: &mut [f32],
         lights: &mut [f32],
         lookats: &mut [f32],
         fogs: &mut [i16],
     ) -> Counts
-        requires { ⌜ Ranged self d ⌝ }
-        ensures { λ r. ⌜ TablesAre d self (loadEdits d self []) r (now (matrices .entry)) (now (scales .entry)) (now (lights .entry)) (now (lookats .entry)) (now (fogs .entry)) (now (matrices .exit)) (now (scales .exit)) (now (lights .exit)) (now (lookats .exit)) (now (fogs .exit)) ⌝ }
+        requires { ⌜ Ranged self d × (self .counts .rows + count ≤ most) ⌝ }
+        ensures { λ r. ⌜ TablesAre d self count (loadEdits d self []) r (now (matrices .entry)) (now (scales .entry)) (now (lights .entry)) (now (lookats .entry)) (now (fogs .entry)) (now (matrices .exit)) (now (scales .exit)) (now (lights .exit)) (now (lookats .exit)) (now (fogs .exit)) ⌝ }
     {
         let mut c = self.counts;
+        c.rows = c.rows + count;
         let combined = d.combined;
         let entry = d.scales;
         let model = d.model;
@@ -359,6 +362,19 @@ impl State {
         Answer::Done
     }
 
+    // The answer that is due once all is settled: what is told of the matrix, or the first table that is full. Asks for a
+    // light number in its range.
+    fn late(self, d: Settled, count: u32, rooms: Rooms) -> Answer
+        requires { ⌜ self .lights .number ≤ 7 ⌝ }
+        ensures { λ r. ⌜ r ≡ lateAnswer d self count rooms ⌝ }
+    {
+        let full = short_table(self.counts, self.more_by(d, count), rooms);
+        if full != 0 {
+            return Answer::NoRoom(full);
+        }
+        Answer::Told(decide::number::if_else(self.defined, 0, 1))
+    }
+
     // Load: `count` vertices of 16 bytes into the slots from `first` on. Nothing is written before all is judged.
     pub fn load(
         mut self,
@@ -376,20 +392,24 @@ impl State {
     ) -> Answered
         ensures { λ r. ⌜ outcome r (loadAreas (now (matrices .exit)) (now (scales .exit)) (now (lights .exit)) (now (lookats .exit)) (now (fogs .exit)) (now (floats .exit)) (now (words .exit))) ≡ loadMeans self first count (now («data» .entry)) at (loadAreas (now (matrices .entry)) (now (scales .entry)) (now (lights .entry)) (now (lookats .entry)) (now (fogs .entry)) (now (floats .entry)) (now (words .entry))) ⌝ }
     {
-        let rooms = rooms_of(matrices, scales, lights, lookats, fogs, floats, words);
+        let rooms = rooms_of(
+            matrices.len(),
+            scales.len(),
+            lights.len(),
+            lookats.len(),
+            fogs.len(),
+            floats.len(),
+            words.len(),
+        );
         let mut answer = self.early(first, count, data.len(), at, rooms);
         if let Answer::Done = answer {
             let stack = self.stack;
             let d = self.settled_by(&stack, matrices, scales, fogs);
-            let full = short_table(self.counts, self.more_by(d, count), rooms);
-            if full != 0 {
-                answer = Answer::NoRoom(full);
-            } else {
-                answer = Answer::Told(decide::number::if_else(self.defined, 0, 1));
+            answer = self.late(d, count, rooms);
+            if let Answer::Told(notice) = answer {
                 let e = self.shared_by(d);
                 let n = self.counts.rows as usize;
-                let mut counts = self.tables_written(d, matrices, scales, lights, lookats, fogs);
-                counts.rows = counts.rows + count;
+                let counts = self.tables_written(d, count, matrices, scales, lights, lookats, fogs);
                 let combined = d.combined;
                 let model = d.model;
                 let m = matrix::math::from_flat(combined);
@@ -400,10 +420,7 @@ impl State {
                 self.lookat = o;
                 for i in 0..(count as usize) {
                     let row = n + i;
-                    let v = layout::vertex(data, at + 16 * i);
-                    vertex::store_floats(floats, row * vertex::FLOATS, v);
-                    vertex::store_words(words, row * vertex::WORDS, e, v);
-                    let s = vertex::slot_of(m, e, v);
+                    let s = vertex::lay(floats, words, row, m, e, data, at + 16 * i);
                     let k = (first as usize) + i;
                     self.row[k] = row as u32;
                     self.ever[k] = true;

@@ -1,10 +1,11 @@
 // A loaded vertex: its row of table 7, and what its slot gets. Each is made from the vertex and from what the rows of a
 // load share; no state is here.
 ghost use mathlib.Core.Path.{_≡_};
-ghost use Prim.Native.Nat.{_+_, _≤_};
+ghost use Prim.Native.Nat.{_+_, _*_, _≤_};
 ghost use lib.ListN.{length};
 ghost use Rattle.areas.specs.Area.{put};
 ghost use Rattle.areas.specs.Widths.{floatWidth, wordWidth};
+ghost use Rattle.layout.specs.Layout.{vertexAt};
 ghost use Rattle.vertex.specs.Vertices.{floatsOf, wordsOf, slotOf};
 use areas::widths::COLOUR_WORD;
 use areas::widths::FOG_WORD;
@@ -44,9 +45,8 @@ pub struct Slot {
     pub z: f64,
 }
 
-// The floats of the row of `v`, from place `at` on. Asks for their room, which is judged once for all rows of a load: a
-// test of each index would be paid at every number.
-pub fn store_floats(floats: &mut [f32], at: usize, v: Vertex)
+// The floats of the row of `v`, from place `at` on. Asks for their room.
+fn store_floats(floats: &mut [f32], at: usize, v: Vertex)
     requires { ⌜ at + floatWidth ≤ length (now floats) ⌝ }
     ensures { λ _. ⌜ now (floats .exit) ≡ put (now (floats .entry)) at (floatsOf v) ⌝ }
 {
@@ -64,7 +64,7 @@ pub fn store_floats(floats: &mut [f32], at: usize, v: Vertex)
 }
 
 // The same for the words.
-pub fn store_words(words: &mut [u32], at: usize, e: Shared, v: Vertex)
+fn store_words(words: &mut [u32], at: usize, e: Shared, v: Vertex)
     requires { ⌜ at + wordWidth ≤ length (now words) ⌝ }
     ensures { λ _. ⌜ now (words .exit) ≡ put (now (words .entry)) at (wordsOf e v) ⌝ }
 {
@@ -81,7 +81,7 @@ pub fn store_words(words: &mut [u32], at: usize, e: Shared, v: Vertex)
 }
 
 // What the slot of `v` gets, its position taken through m.
-pub fn slot_of(m: [[f32; 4]; 4], e: Shared, v: Vertex) -> Slot
+fn slot_of(m: [[f32; 4]; 4], e: Shared, v: Vertex) -> Slot
     ensures { λ r. ⌜ r ≡ slotOf m e v ⌝ }
 {
     let pos = v.pos;
@@ -94,4 +94,24 @@ pub fn slot_of(m: [[f32; 4]; 4], e: Shared, v: Vertex) -> Slot
         deep: d.some,
         z: d.z,
     }
+}
+
+// The vertex of 16 bytes from `at` on laid down as row `row`: what its slot gets. Asks for the row's room and for the
+// bytes, which are judged once for all rows of a load: a test of each index would be paid at every number.
+pub fn lay(
+    floats: &mut [f32],
+    words: &mut [u32],
+    row: usize,
+    m: [[f32; 4]; 4],
+    e: Shared,
+    data: &[u8],
+    at: usize,
+) -> Slot
+    requires { ⌜ ((row + 1) * floatWidth ≤ length (now floats)) × ((row + 1) * wordWidth ≤ length (now words)) × (at + 16 ≤ length (now «data»)) ⌝ }
+    ensures { λ r. ⌜ (now (floats .exit) ≡ put (now (floats .entry)) (row * floatWidth) (floatsOf (vertexAt (now («data» .entry)) at))) × (now (words .exit) ≡ put (now (words .entry)) (row * wordWidth) (wordsOf e (vertexAt (now («data» .entry)) at))) × (r ≡ slotOf m e (vertexAt (now («data» .entry)) at)) ⌝ }
+{
+    let v = layout::vertex(data, at);
+    store_floats(floats, row * FLOATS, v);
+    store_words(words, row * WORDS, e, v);
+    slot_of(m, e, v)
 }

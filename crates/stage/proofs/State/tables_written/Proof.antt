@@ -1,3 +1,4 @@
+use Prim.Native.Nat.{_+_}
 use mir.Syntax.{w16}
 use mir.Facts.{toZ-ofZ}
 use Rattle.stage.specs.Load.{loadEdits}
@@ -5,6 +6,9 @@ use Rattle.stage.proofs.Settling.{put-count, put-area}
 use borrow.Author.Needs.{needs}
 use Rattle.stage.proofs.State.tables_written.Statement.{statement}
 use Rattle.stage.proofs.State.tables_written.Tie as tie
+
+add-c : tie.Need-add-c
+add-c c = search needs
 
 from-flat-requires : tie.Need-from-flat-requires
 from-flat-requires c κs = search needs
@@ -22,7 +26,7 @@ lookat-if-requires : tie.Need-lookat-if-requires
 lookat-if-requires c κs = search needs
 
 put-fog-if-requires : tie.Need-put-fog-if-requires
-put-fog-if-requires c κs = c .before .before .before .before .before .before .before .before .before .before .before .before .before .before .before .before .before .before .before .before .before .before .before .before .before .before .before .before .before .before .before .before .pre .fogs
+put-fog-if-requires c κs = c .before .before .before .before .before .before .before .before .before .before .before .before .before .before .before .before .before .before .before .before .before .before .before .before .before .before .before .before .before .before .before .before .before .pre .0 .fogs
 
 same-length : tie.Need-same-length
 same-length c = c .before .before .before .before .before .before .before .before .before .before .before .before .before .before .before .before .before .before .before .put-matrix-if .kept .1 .0
@@ -42,8 +46,9 @@ same-length-5 c = search needs
 returns : tie.Need-returns
 unfolding loadEdits
 returns c =
-    let d = c .before .before .before .before .before .before .before .before .before .before .before .before .before .before .before .before .before .before .before .before .before .before .before .before .before .before .before .before .before .before .before .before .before .before .args .d in
-    let s = c .before .before .before .before .before .before .before .before .before .before .before .before .before .before .before .before .before .before .before .before .before .before .before .before .before .before .before .before .before .before .before .before .before .before .args .self in
+    let d = c .before .before .before .before .before .before .before .before .before .before .before .before .before .before .before .before .before .before .before .before .before .before .before .before .before .before .before .before .before .before .before .before .before .before .before .args .d in
+    let s = c .before .before .before .before .before .before .before .before .before .before .before .before .before .before .before .before .before .before .before .before .before .before .before .before .before .before .before .before .before .before .before .before .before .before .before .args .self in
+    let n = c .before .before .before .before .before .before .before .before .before .before .before .before .before .before .before .before .before .before .before .before .before .before .before .before .before .before .before .before .before .before .before .before .before .before .before .args .count in
     let a = c .before .before .before .before .before .before .before .before .before .before .before .before .before .before .before .before .before .before .before .put-matrix-if .ensures in
     let b = c .before .before .before .before .before .before .before .before .before .before .before .before .before .before .before .put-scales-if .ensures in
     let l = rw (c .before .before .before .before .before .before .before .before .before .before .before .before .before .before .before .before .before .before .before .before .before .before .before .before .before .from-flat .ensures) at (c .before .before .before .before .before .before .before .before .before .before .before .lights-if .ensures) in
@@ -57,7 +62,7 @@ returns c =
         lights = put-count (d .newlights) _ _ _ _ _ _ l i;
         lookats = put-count (d .newlookat) _ _ _ _ _ _ o i;
         fogs = put-count (d .newfog) _ _ _ _ _ _ f i;
-        rows = s .counts .rows;
+        rows = s .counts .rows + n;
         indices = s .counts .indices;
         runs = s .counts .runs;
       };
@@ -72,6 +77,7 @@ pub tables-written-spec : {M : Type 1} → statement M
 tables-written-spec =
     tie.close
     (tie.spec
+    add-c
     from-flat-requires
     put-matrix-if-requires
     put-scales-if-requires
