@@ -1,7 +1,9 @@
 -- The loop of a load: what one more vertex does to the slots and to the two areas of table 7. Assumes nothing.
-use Prim.Native.Nat.{ℕ, _+_, _*_}
-use native.Mathlib.Nat.{add-zero}
+use Prim.Native.Nat.{ℕ, _+_, _*_, _≤_, _<_}
+use native.Mathlib.Nat.{add-zero, mul-le-mul}
 use native.Mathlib.Omega.{arith}
+use mir.Syntax.{w32, w64}
+use mir.Val.{Fits}
 use mathlib.Core.Path.{_≡_, refl, sym, _∙_}
 use mathlib.Core.List.{List, [], _∷_, _++_, map, map-append}
 use lib.ListN.{length, length-map}
@@ -17,7 +19,7 @@ use Rattle.vertex.specs.Vertices.{floatsOf, wordsOf, slotOf, verticesAt}
 use Rattle.vertex.proofs.Believe.{floats-size, words-size, wide-map, length-vertices, vertices-snoc}
 use Rattle.stage.specs.declared.State.{State}
 use Rattle.stage.specs.Rows.{fillSlot, fillSlots}
-use Rattle.stage.specs.Steps.{RowsLaid}
+use Rattle.stage.specs.Steps.{RowsFit, RowsLaid}
 
 -- one more vertex fills one more slot
 pub fill-snoc : (s : State) (m : List (List Float)) (e : Shared) (k r : ℕ) (vs : List Vertex) (v : Vertex)
@@ -39,6 +41,39 @@ rows-snoc f w n h vs v l =
 pub laid-long : {s s′ : State} {m : List (List Float)} {e : Shared} {first : ℕ} {vs : List Vertex} {f f′ : List Float} {w w′ : List ℕ}
     → RowsLaid s m e first vs f w s′ f′ w′ → (length f′ ≡ length f) × (length w′ ≡ length w)
 laid-long h = (rw (h .floats, length-write), rw (h .words, length-write))
+
+-- what vertex i of count needs: its row, its bytes and its slot are there, and every number on the way fits
+module _ {n first count at : ℕ} {b : List ℕ} {f : List Float} {w : List ℕ} (h : RowsFit n first count at b f w) {i : ℕ} (below : i < count) where
+  pub slot-there : first + i < 256
+  slot-there = omega (arith, h .slots)
+
+  pub row-fits : Fits w64 (n + i)
+  row-fits = record { fits = omega (arith, h .rows) }
+
+  pub row-fits-32 : Fits w32 (n + i)
+  row-fits-32 = record { fits = omega (arith, h .rows) }
+
+  pub bytes-fit : Fits w64 (16 * i)
+  bytes-fit = record { fits = omega (arith, h .slots) }
+
+  pub place-fits : length b ≤ 18446744073709551615 → Fits w64 (at + 16 * i)
+  place-fits g = record { fits = omega (arith, h .bytes, g) }
+
+  pub slot-fits : Fits w64 (first + i)
+  slot-fits = record { fits = omega (arith, h .slots) }
+
+  -- where the slot stands in a column of k bytes each
+  pub byte-fits : (k : ℕ) → k ≤ 8 → Fits w64 ((first + i) * k)
+  byte-fits k g =
+      let p : first + i ≤ 256 = omega (arith, h .slots) in
+      record { fits = omega (arith, mul-le-mul p g) }
+
+  pub next-fits : Fits w64 (i + 1)
+  next-fits = record { fits = omega (arith, h .slots) }
+
+  -- the row's room in areas as long as f and w, and the bytes
+  pub vertex-there : {x y : ℕ} → x ≡ length f → y ≡ length w → ((n + i + 1) * floatWidth ≤ x) × ((n + i + 1) * wordWidth ≤ y) × (at + 16 * i + 16 ≤ length b)
+  vertex-there p q = (omega (arith, h .floats, p), omega (arith, h .words, q), omega (arith, h .bytes))
 
 module _ (s : State) (m : List (List Float)) (e : Shared) (first at : ℕ) (b : List ℕ) (f : List Float) (w : List ℕ) where
   -- the first i vertices have their rows and slots

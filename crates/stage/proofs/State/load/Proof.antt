@@ -15,7 +15,7 @@ use Rattle.stage.specs.declared.Answer.the-variants.{Told}
 use Rattle.stage.specs.declared.State.{State}
 use Rattle.stage.specs.Steps.{Ranged, RowsFit, RowsLaid}
 use Rattle.stage.proofs.Judged.{Ranges, ranges}
-use Rattle.stage.proofs.Filling.{laid-long, laid-none, laid-more}
+use Rattle.stage.proofs.Filling.{slot-there, row-fits, row-fits-32, bytes-fit, place-fits, slot-fits, byte-fits, next-fits, vertex-there, laid-long, laid-none, laid-more}
 use Rattle.stage.proofs.Loading.{Judged, shortOf, fullOf, Sized, way-early, passed-early, way-late, passed-late, way-done, load-ready, load-done, settled-then}
 use borrow.Author.Needs.{needs}
 use Rattle.stage.proofs.State.load.Statement.{statement}
@@ -148,55 +148,55 @@ loop-holds : tie.Need-loop-holds Inv-loop μ-loop
 loop-holds c = (omega arith, laid-none _ _ _ _ _ _ _ _, refl, refl, ready (asked c) .1)
 
 add-row : tie.Need-add-row Inv-loop μ-loop
-add-row c = omega (arith, c .before .loop .inv .4)
+add-row c = row-fits (c .before .loop .inv .4) (c .loop-test .taken)
 
 mul-lay : tie.Need-mul-lay Inv-loop μ-loop
-mul-lay c = omega (arith, c .before .before .before .loop .inv .4)
+mul-lay c = bytes-fit (c .before .before .before .loop .inv .4) (c .before .before .loop-test .taken)
 
 add-lay : tie.Need-add-lay Inv-loop μ-loop
-add-lay c = omega (arith, c .before .before .before .loop .inv .4, reach (begun (asked (c .before .before .before .before) .before .before)))
+add-lay c = place-fits (c .before .before .before .loop .inv .4) (c .before .before .loop-test .taken) (reach (begun (asked (c .before .before .before .before) .before .before)))
 
 lay-requires : tie.Need-lay-requires Inv-loop μ-loop
-lay-requires c κs = let h = c .before .before .before .loop .inv in (omega (arith, h .4), omega (arith, h .4), omega (arith, h .4))
+lay-requires c κs = let h = c .before .before .before .loop .inv in vertex-there (h .4) (c .before .before .loop-test .taken) (h .2) (h .3)
 
 add-k : tie.Need-add-k Inv-loop μ-loop
-add-k c = omega (arith, c .before .before .before .before .before .before .before .before .loop .inv .4)
+add-k c = slot-fits (c .before .before .before .before .before .before .before .before .loop .inv .4) (c .before .before .before .before .before .before .before .loop-test .taken)
 
 cast-self : tie.Need-cast-self Inv-loop μ-loop
-cast-self c = omega (arith, c .before .before .before .before .before .before .before .before .loop .inv .4)
+cast-self c = row-fits-32 (c .before .before .before .before .before .before .before .before .loop .inv .4) (c .before .before .before .before .before .before .before .loop-test .taken)
 
 mul-self : tie.Need-mul-self Inv-loop μ-loop
-mul-self c = omega (arith, c .before .before .before .before .before .before .before .before .loop .inv .4)
+mul-self c = byte-fits (c .before .before .before .before .before .before .before .before .loop .inv .4) (c .before .before .before .before .before .before .before .loop-test .taken) 4 (omega arith)
 
 element-write-self : tie.Need-element-write-self Inv-loop μ-loop
-element-write-self c = omega (arith, c .before .before .before .before .before .before .before .before .loop .inv .4)
+element-write-self c = slot-there (c .before .before .before .before .before .before .before .before .loop .inv .4) (c .before .before .before .before .before .before .before .loop-test .taken)
 
 element-write-self-2 : tie.Need-element-write-self-2 Inv-loop μ-loop
-element-write-self-2 c = omega (arith, c .before .before .before .before .before .before .before .before .loop .inv .4)
+element-write-self-2 c = slot-there (c .before .before .before .before .before .before .before .before .loop .inv .4) (c .before .before .before .before .before .before .before .loop-test .taken)
 
 element-write-self-3 : tie.Need-element-write-self-3 Inv-loop μ-loop
-element-write-self-3 c = omega (arith, c .before .before .before .before .before .before .before .before .loop .inv .4)
+element-write-self-3 c = slot-there (c .before .before .before .before .before .before .before .before .loop .inv .4) (c .before .before .before .before .before .before .before .loop-test .taken)
 
 element-write-self-4 : tie.Need-element-write-self-4 Inv-loop μ-loop
-element-write-self-4 c = omega (arith, c .before .before .before .before .before .before .before .before .loop .inv .4)
+element-write-self-4 c = slot-there (c .before .before .before .before .before .before .before .before .loop .inv .4) (c .before .before .before .before .before .before .before .loop-test .taken)
 
 element-write-self-5 : tie.Need-element-write-self-5 Inv-loop μ-loop
-element-write-self-5 c = omega (arith, c .before .before .before .before .before .before .before .before .loop .inv .4)
+element-write-self-5 c = slot-there (c .before .before .before .before .before .before .before .before .loop .inv .4) (c .before .before .before .before .before .before .before .loop-test .taken)
 
 element-write-self-6 : tie.Need-element-write-self-6 Inv-loop μ-loop
-element-write-self-6 c = omega (arith, c .before .before .before .before .before .before .before .before .loop .inv .4)
+element-write-self-6 c = slot-there (c .before .before .before .before .before .before .before .before .loop .inv .4) (c .before .before .before .before .before .before .before .loop-test .taken)
 
 element-write-self-7 : tie.Need-element-write-self-7 Inv-loop μ-loop
-element-write-self-7 c = omega (arith, c .before .before .before .before .before .before .before .before .loop .inv .4)
+element-write-self-7 c = slot-there (c .before .before .before .before .before .before .before .before .loop .inv .4) (c .before .before .before .before .before .before .before .loop-test .taken)
 
 mul-self-2 : tie.Need-mul-self-2 Inv-loop μ-loop
-mul-self-2 c = omega (arith, c .before .before .before .before .before .before .before .before .loop .inv .4)
+mul-self-2 c = byte-fits (c .before .before .before .before .before .before .before .before .loop .inv .4) (c .before .before .before .before .before .before .before .loop-test .taken) 8 (omega arith)
 
 element-write-self-8 : tie.Need-element-write-self-8 Inv-loop μ-loop
-element-write-self-8 c = omega (arith, c .before .before .before .before .before .before .before .before .loop .inv .4)
+element-write-self-8 c = slot-there (c .before .before .before .before .before .before .before .before .loop .inv .4) (c .before .before .before .before .before .before .before .loop-test .taken)
 
 add-i : tie.Need-add-i Inv-loop μ-loop
-add-i c = omega (arith, c .before .before .before .before .before .before .before .before .loop .inv .4)
+add-i c = next-fits (c .before .before .before .before .before .before .before .before .loop .inv .4) (c .before .before .before .before .before .before .before .loop-test .taken)
 
 loop-less : tie.Need-loop-less Inv-loop μ-loop
 loop-less c = omega (arith, c .before .before .before .before .before .before .before .before .loop .inv .4)
