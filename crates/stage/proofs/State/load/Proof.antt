@@ -55,7 +55,7 @@ abbrev lent : tie.Start Inv-loop μ-loop → LoadAreas
 lent c = loadAreas (now (c .args .matrices)) (now (c .args .scales)) (now (c .args .lights)) (now (c .args .lookats)) (now (c .args .fogs)) (now (c .args .floats)) (now (c .args .words))
 
 judged : (c : tie.At-match-keys1 Inv-loop μ-loop) → let a = start (c .before) .args in Judged (a .t1) (a .first) (a .count) (a .at) (now (a .«data»)) × (shortOf (a .t1) (c .before .before .rooms-of .result) ≡ 0)
-judged c = passed-early _ (lent (start (c .before))) _ _ _ _ _ (c .before .before .rooms-of .ensures) _ (c .before .early .ensures) (c .match .keys1)
+judged c = let s = start (c .before) in let a = s .args in passed-early (a .t1) (lent s) (a .first) (a .count) (a .at) (now (a .«data»)) (c .before .before .rooms-of .result) (c .before .before .rooms-of .ensures) (c .before .early .result) (c .before .early .ensures) (c .match .keys1)
 
 ranged : (c : tie.At-match-keys1 Inv-loop μ-loop) → Ranges (start (c .before) .args .t1)
 ranged c = ranges _ (judged c .0 .sound)
@@ -71,10 +71,10 @@ sized c =
     }
 
 passed : (c : tie.At-match2-keys1 Inv-loop μ-loop) → let d = c .before .before in let a = begun d .args in (fullOf (a .t1) (d .settled-by .result) (a .count) (matched d .before .before .rooms-of .result) ≡ 0) × (c .before .late .result ≡ Told (pick (a .t1 .defined) 0 1))
-passed c = passed-late _ _ _ _ _ _ _ _ (sized (c .before .before)) _ (c .before .late .ensures) (c .match2 .keys1)
+passed c = let d = c .before .before in let s = begun d in let a = s .args in passed-late (a .t1) (lent s) (a .first) (a .count) (a .at) (now (a .«data»)) (matched d .before .before .rooms-of .result) (d .settled-by .result) (sized d) (c .before .late .result) (c .before .late .ensures) (c .match2 .keys1)
 
 ready : (c : tie.At-match2-keys1 Inv-loop μ-loop) → let d = c .before .before in let a = begun d .args in Ranged (a .t1) (d .settled-by .result) × RowsFit (a .t1 .counts .rows) (a .first) (a .count) (a .at) (now (a .«data»)) (now (a .floats)) (now (a .words))
-ready c = load-ready _ _ _ _ _ _ _ _ (sized (c .before .before)) (passed c .0)
+ready c = let d = c .before .before in let s = begun d in let a = s .args in load-ready (a .t1) (lent s) (a .first) (a .count) (a .at) (now (a .«data»)) (matched d .before .before .rooms-of .result) (d .settled-by .result) (sized d) (passed c .0)
 
 reach : (c : tie.Start Inv-loop μ-loop) → length (now (c .args .«data»)) ≤ 18446744073709551615
 reach c = omega arith
@@ -199,15 +199,17 @@ add-i : tie.Need-add-i Inv-loop μ-loop
 add-i c = next-fits (c .before .before .before .before .before .before .before .before .loop .inv .4) (c .before .before .before .before .before .before .before .loop-test .taken)
 
 loop-less : tie.Need-loop-less Inv-loop μ-loop
-loop-less c = omega (arith, c .before .before .before .before .before .before .before .before .loop .inv .4)
+loop-less c = let h = c .before .before .before .before .before .before .before .loop-test .taken in omega (arith, h)
 
 loop-again : tie.Need-loop-again Inv-loop μ-loop
 unfolding fillSlot
-loop-again c =
-    let l = c .before .before .before .before .before .before .before .before .loop in
+loop-again c = let l = c .before .before .before .before .before .before .before .before .loop in
+    let o = c .before .before .before .before .before .before .before .before .before in
+    let h = shared (written o) in
+    let a = begun (told h .before .before) .args in
     let y = c .before .before .before .before .lay .ensures in
-    let t = laid-more _ _ _ _ _ _ _ _ _ (l .inv .1) refl (y .0) (y .1) (y .2) refl in
-    (omega arith, t, laid-long t .0, laid-long t .1, l .inv .4)
+    let t = laid-more (settling o) (o .before .before .before .before .from-flat .result) (h .shared-by .result) (a .first) (a .at) (now (a .«data»)) (now (a .floats)) (now (a .words)) (l .i) (l .inv .1) refl (y .0) (y .1) (y .2) refl in
+    (omega (arith, c .before .before .before .before .before .before .before .loop-test .taken), t, laid-long t .0, laid-long t .1, l .inv .4)
 
 same-length : tie.Need-same-length Inv-loop μ-loop
 same-length c = search needs
@@ -234,9 +236,15 @@ returns : tie.Need-returns Inv-loop μ-loop
 returns c =
     let o = c .before .before in
     let w = written o in
-    let k = asked o in
-    way-done _ _ _ _ _ _ _ _ (sized (k .before .before)) (passed k .0) _
-    (load-done _ _ _ _ _ _ _ _ _ _ _ _ _ (settles o) (shared w .shared-by .ensures) (o .before .before .before .before .from-flat .ensures) (w .tables-written .ensures) (laid c) (sym (shared w .before .before .answer2 .given .1) ∙ passed k .1) (length-vertices _ _ _))
+    let h = shared w in
+    let k = told h in
+    let d = k .before .before in
+    let s = begun d in
+    let a = s .args in
+    let vs = verticesAt (now (a .«data»)) (a .at) (a .count) in
+    way-done (a .t1) (lent s) (a .first) (a .count) (a .at) (now (a .«data»)) (matched d .before .before .rooms-of .result) (d .settled-by .result) (sized d) (passed k .0) _
+    (load-done (a .t1) (settling o) (c .before .loop .self) (d .settled-by .result) (h .shared-by .result) (o .before .before .before .before .from-flat .result) (w .tables-written .result) vs (a .first) (a .count) (Told (h .before .before .answer2 .given .0 .0)) (lent s) _
+    (settles o) (h .shared-by .ensures) (o .before .before .before .before .from-flat .ensures) (w .tables-written .ensures) (laid c) (sym (h .before .before .answer2 .given .1) ∙ passed k .1) (length-vertices (now (a .«data»)) (a .at) (a .count)))
 
 same-length-8 : tie.Need-same-length-8 Inv-loop μ-loop
 same-length-8 c = search needs
@@ -248,10 +256,10 @@ same-length-10 : tie.Need-same-length-10 Inv-loop μ-loop
 same-length-10 c = search needs
 
 returns-2 : tie.Need-returns-2 Inv-loop μ-loop
-returns-2 c = way-late _ _ _ _ _ _ _ _ (sized (c .before .before)) _ (c .before .late .ensures) (c .match2 .keys2)
+returns-2 c = let d = c .before .before in let s = begun d in let a = s .args in way-late (a .t1) (lent s) (a .first) (a .count) (a .at) (now (a .«data»)) (matched d .before .before .rooms-of .result) (d .settled-by .result) (sized d) (c .before .late .result) (c .before .late .ensures) (c .match2 .keys2)
 
 returns-3 : tie.Need-returns-3 Inv-loop μ-loop
-returns-3 c = way-early _ _ _ _ _ _ _ (c .before .before .rooms-of .ensures) _ (c .before .early .ensures) (c .match .keys2)
+returns-3 c = let s = start (c .before) in let a = s .args in way-early (a .t1) (lent s) (a .first) (a .count) (a .at) (now (a .«data»)) (c .before .before .rooms-of .result) (c .before .before .rooms-of .ensures) (c .before .early .result) (c .before .early .ensures) (c .match .keys2)
 
 pub load-spec : {M : Type 1} → statement M
 load-spec =
