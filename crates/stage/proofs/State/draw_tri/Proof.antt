@@ -35,15 +35,20 @@ found : (e : tie.After-judge) →
     e .judge .result ≡ judgement (familyOf (s .args .self .microcode)) 256 (s .args .self) (now (s .args .indices)) (now (s .args .runs)) (s .args .a) (s .args .b) (s .args .c) (asked s) refl
 found e =
     let s = e .before .before .before .before .before .before .before .before .before .before .before .before .before .before .before .before .before .before .before in
-    let at = e .before .before .before .before .before .before .before .before .before .before .corners-at .ensures in
-    verdict-is (familyOf (s .args .self .microcode)) 256 _ _ _ _ _ _ _ _ _ _ _ _ _ _ _ _ _ _ _
+    let a = s .args in
+    let k = e .before .before .before .before .before .before .before .before .before .before .corners-at in
+    let t = e .before .before .before .before .before .before .tables-of in
+    let sd = e .before .before .before .before .before .sides-of in
+    let set = e .before .before .before .before .settings-of in
+    let d = e .before .before .last-run in
+    verdict-is (familyOf (a .self .microcode)) 256 (a .self) (now (a .indices)) (now (a .runs)) (a .a) (a .b) (a .c) (asked s) _ _ _ (sd .result) (k .result .p) (k .result .q) (k .result .s) (t .result) (set .result) (d .result) (e .before .sound .result) (e .judge .result)
     (sided e)
-    (ap (λ (x : Corners). x .p) at)
-    (ap (λ (x : Corners). x .q) at)
-    (ap (λ (x : Corners). x .s) at)
-    (e .before .before .before .before .before .before .tables-of .ensures)
-    (e .before .before .before .before .settings-of .ensures)
-    (e .before .before .last-run .ensures)
+    (ap (λ (x : Corners). x .p) (k .ensures))
+    (ap (λ (x : Corners). x .q) (k .ensures))
+    (ap (λ (x : Corners). x .s) (k .ensures))
+    (t .ensures)
+    (set .ensures)
+    (d .ensures)
     (e .before .sound .ensures)
     (e .judge .ensures)
 
