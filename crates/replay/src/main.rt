@@ -5,14 +5,9 @@ ghost use lib.ListN.{length};
 ghost use Rattle.trace.specs.Header.{Within};
 ghost use Rattle.player.specs.Ops.{areasOf};
 ghost use Rattle.player.specs.Play.{portOf, played};
+use dump::show;
 use stage::State;
 use trace::rooms::Lengths;
-
-mod dump;
-mod hash;
-mod show;
-mod slots;
-mod tables;
 
 // Runs the ops of the script over the areas, with a line for each: the state that is left.
 fn play(
@@ -100,7 +95,7 @@ fn run(
         indices,
         runs,
     );
-    dump::write(
+    dump::dump::write(
         state,
         matrices,
         viewports,

@@ -13,6 +13,7 @@ use Rattle.trace.specs.Script.{callAt}
 use Rattle.player.specs.Ops.{areasOf}
 use Rattle.player.specs.Play.{portOf, playFrom}
 use Rattle.player.proofs.Playing.{Left, all-left, left-behind, ended, cut}
+use Rattle.replay.proofs.Again.{still-alike}
 use borrow.Author.Needs.{needs}
 use Rattle.replay.proofs.play.Statement.{statement}
 use Rattle.replay.proofs.play.Tie as tie
@@ -96,7 +97,7 @@ loop-again c =
     let v = o .loop .inv in
     let e = k .call-at .ensures .0 ∙ ap (λ (h : Shape). callAt h (now (start o .args .s)) (o .loop .at)) (k .before .shape-of .ensures) in
     let l = left-behind _ _ _ _ _ _ (x .step .result) _ _ (tested k .loop-test .taken) e (not-false _ (w .if1 .left)) (k .call-at .ensures .1 .past) (x .step .ensures) (c .before .before .lent-after .ensures) (v .1 .1 .0) in
-    (k .call-at .ensures .1 .inside, (omega (arith, k .call-at .ensures .1 .past, v .1 .0), (l, record { matrices = x .step .kept .1 .1 .1 .1 .0 ∙ v .1 .1 .1 .matrices; viewports = x .step .kept .1 .1 .1 .1 .1 .0 ∙ v .1 .1 .1 .viewports; scales = x .step .kept .1 .1 .1 .1 .1 .1 .0 ∙ v .1 .1 .1 .scales; lights = x .step .kept .1 .1 .1 .1 .1 .1 .1 .0 ∙ v .1 .1 .1 .lights; lookats = x .step .kept .1 .1 .1 .1 .1 .1 .1 .1 .0 ∙ v .1 .1 .1 .lookats; fogs = x .step .kept .1 .1 .1 .1 .1 .1 .1 .1 .1 .0 ∙ v .1 .1 .1 .fogs; floats = x .step .kept .1 .1 .1 .1 .1 .1 .1 .1 .1 .1 .0 ∙ v .1 .1 .1 .floats; words = x .step .kept .1 .1 .1 .1 .1 .1 .1 .1 .1 .1 .1 .0 ∙ v .1 .1 .1 .words; indices = x .step .kept .1 .1 .1 .1 .1 .1 .1 .1 .1 .1 .1 .1 .0 ∙ v .1 .1 .1 .indices; runs = x .step .kept .1 .1 .1 .1 .1 .1 .1 .1 .1 .1 .1 .1 .1 .0 ∙ v .1 .1 .1 .runs })))
+    (k .call-at .ensures .1 .inside, (omega (arith, k .call-at .ensures .1 .past, v .1 .0), (l, still-alike _ _ _ (x .step .kept .1 .1 .1 .1) (v .1 .1 .1))))
 
 same-length : tie.Need-same-length Inv-loop μ-loop
 same-length c = c .before .before .loop .inv .1 .1 .1 .matrices

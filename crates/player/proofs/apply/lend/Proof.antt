@@ -36,97 +36,97 @@ within-requires-10 : tie.Need-within-requires-10
 within-requires-10 c κs = search needs
 
 slice-relend-prefix-apply : tie.Need-slice-relend-prefix-apply
-slice-relend-prefix-apply c = search needs
+slice-relend-prefix-apply c = c .before .before .before .before .before .before .before .before .before .within .ensures .0
 
 slice-aggregate-apply : tie.Need-slice-aggregate-apply
-slice-aggregate-apply c = front _ _ (search needs)
+slice-aggregate-apply c = front _ _ (c .before .before .before .before .before .before .before .before .before .before .within .ensures .0)
 
 slice-relend-prefix-apply-2 : tie.Need-slice-relend-prefix-apply-2
-slice-relend-prefix-apply-2 c = search needs
+slice-relend-prefix-apply-2 c = c .before .before .before .before .before .before .before .before .before .within2 .ensures .0
 
 slice-aggregate-apply-2 : tie.Need-slice-aggregate-apply-2
-slice-aggregate-apply-2 c = front _ _ (search needs)
+slice-aggregate-apply-2 c = front _ _ (c .before .before .before .before .before .before .before .before .before .before .within2 .ensures .0)
 
 slice-relend-prefix-apply-3 : tie.Need-slice-relend-prefix-apply-3
-slice-relend-prefix-apply-3 c = search needs
+slice-relend-prefix-apply-3 c = c .before .before .before .before .before .before .before .before .before .within3 .ensures .0
 
 slice-aggregate-apply-3 : tie.Need-slice-aggregate-apply-3
-slice-aggregate-apply-3 c = front _ _ (search needs)
+slice-aggregate-apply-3 c = front _ _ (c .before .before .before .before .before .before .before .before .before .before .within3 .ensures .0)
 
 slice-relend-prefix-apply-4 : tie.Need-slice-relend-prefix-apply-4
-slice-relend-prefix-apply-4 c = search needs
+slice-relend-prefix-apply-4 c = c .before .before .before .before .before .before .before .before .before .within4 .ensures .0
 
 slice-aggregate-apply-4 : tie.Need-slice-aggregate-apply-4
-slice-aggregate-apply-4 c = front _ _ (search needs)
+slice-aggregate-apply-4 c = front _ _ (c .before .before .before .before .before .before .before .before .before .before .within4 .ensures .0)
 
 slice-relend-prefix-apply-5 : tie.Need-slice-relend-prefix-apply-5
-slice-relend-prefix-apply-5 c = search needs
+slice-relend-prefix-apply-5 c = c .before .before .before .before .before .before .before .before .before .within5 .ensures .0
 
 slice-aggregate-apply-5 : tie.Need-slice-aggregate-apply-5
-slice-aggregate-apply-5 c = front _ _ (search needs)
+slice-aggregate-apply-5 c = front _ _ (c .before .before .before .before .before .before .before .before .before .before .within5 .ensures .0)
 
 slice-relend-prefix-apply-6 : tie.Need-slice-relend-prefix-apply-6
-slice-relend-prefix-apply-6 c = search needs
+slice-relend-prefix-apply-6 c = c .before .before .before .before .before .before .before .before .before .within6 .ensures .0
 
 slice-aggregate-apply-6 : tie.Need-slice-aggregate-apply-6
-slice-aggregate-apply-6 c = front _ _ (search needs)
+slice-aggregate-apply-6 c = front _ _ (c .before .before .before .before .before .before .before .before .before .before .within6 .ensures .0)
 
 slice-relend-prefix-apply-7 : tie.Need-slice-relend-prefix-apply-7
-slice-relend-prefix-apply-7 c = search needs
+slice-relend-prefix-apply-7 c = c .before .before .before .before .before .before .before .before .before .within7 .ensures .0
 
 slice-aggregate-apply-7 : tie.Need-slice-aggregate-apply-7
-slice-aggregate-apply-7 c = front _ _ (search needs)
+slice-aggregate-apply-7 c = front _ _ (c .before .before .before .before .before .before .before .before .before .before .within7 .ensures .0)
 
 slice-relend-prefix-apply-8 : tie.Need-slice-relend-prefix-apply-8
-slice-relend-prefix-apply-8 c = search needs
+slice-relend-prefix-apply-8 c = c .before .before .before .before .before .before .before .before .before .within8 .ensures .0
 
 slice-aggregate-apply-8 : tie.Need-slice-aggregate-apply-8
-slice-aggregate-apply-8 c = front _ _ (search needs)
+slice-aggregate-apply-8 c = front _ _ (c .before .before .before .before .before .before .before .before .before .before .within8 .ensures .0)
 
 slice-relend-prefix-apply-9 : tie.Need-slice-relend-prefix-apply-9
-slice-relend-prefix-apply-9 c = search needs
+slice-relend-prefix-apply-9 c = c .before .before .before .before .before .before .before .before .before .within9 .ensures .0
 
 slice-aggregate-apply-9 : tie.Need-slice-aggregate-apply-9
-slice-aggregate-apply-9 c = front _ _ (search needs)
+slice-aggregate-apply-9 c = front _ _ (c .before .before .before .before .before .before .before .before .before .before .within9 .ensures .0)
 
 slice-relend-prefix-apply-10 : tie.Need-slice-relend-prefix-apply-10
-slice-relend-prefix-apply-10 c = search needs
+slice-relend-prefix-apply-10 c = c .before .before .before .before .before .before .before .before .before .within10 .ensures .0
 
 slice-aggregate-apply-10 : tie.Need-slice-aggregate-apply-10
-slice-aggregate-apply-10 c = front _ _ (search needs)
+slice-aggregate-apply-10 c = front _ _ (c .before .before .before .before .before .before .before .before .before .before .within10 .ensures .0)
 
 apply-requires : tie.Need-apply-requires
 apply-requires c κs = search needs
 
 same-length : tie.Need-same-length
-same-length c = search needs
+same-length c = c .before .before .before .before .before .before .before .before .before .before .before .before .before .before .before .before .before .before .matrices .given .1
 
 same-length-2 : tie.Need-same-length-2
-same-length-2 c = search needs
+same-length-2 c = c .before .before .before .before .before .before .before .before .before .before .before .before .before .before .before .before .viewports .given .1
 
 same-length-3 : tie.Need-same-length-3
-same-length-3 c = search needs
+same-length-3 c = c .before .before .before .before .before .before .before .before .before .before .before .before .before .before .scales .given .1
 
 same-length-4 : tie.Need-same-length-4
-same-length-4 c = search needs
+same-length-4 c = c .before .before .before .before .before .before .before .before .before .before .before .before .lights .given .1
 
 same-length-5 : tie.Need-same-length-5
-same-length-5 c = search needs
+same-length-5 c = c .before .before .before .before .before .before .before .before .before .before .lookats .given .1
 
 same-length-6 : tie.Need-same-length-6
-same-length-6 c = search needs
+same-length-6 c = c .before .before .before .before .before .before .before .before .fogs .given .1
 
 same-length-7 : tie.Need-same-length-7
-same-length-7 c = search needs
+same-length-7 c = c .before .before .before .before .before .before .before .floats .given .1
 
 same-length-8 : tie.Need-same-length-8
-same-length-8 c = search needs
+same-length-8 c = c .before .before .before .before .before .words .given .1
 
 same-length-9 : tie.Need-same-length-9
-same-length-9 c = search needs
+same-length-9 c = c .before .before .before .indices .given .1
 
 same-length-10 : tie.Need-same-length-10
-same-length-10 c = search needs
+same-length-10 c = c .before .runs .given .1
 
 returns : tie.Need-returns
 returns c =

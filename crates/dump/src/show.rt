@@ -1,0 +1,274 @@
+// Writes text to standard output.
+ghost use mathlib.Core.Path.{_≡_};
+ghost use mathlib.Core.Bool.{false};
+ghost use mathlib.Core.List.{[], _∷_};
+ghost use Prim.Native.Nat.{_<_};
+ghost use lib.ListN.{take};
+ghost use lib.Ieee.{binary32, binary64, toBits, ne};
+ghost use mir.Val.{ofZ};
+ghost use mir.Syntax.{w16};
+ghost use Rattle.stage.specs.Answers.{number, values};
+use libc::STDOUT_FILENO;
+use stage::Answer;
+use stage::Counts;
+use trace::ops;
+
+pub fn text(s: &[u8]) {
+    io::write_all(STDOUT_FILENO, s);
+}
+
+pub(crate) fn end() {
+    text(b"\n");
+}
+
+pub(crate) fn decimal(n: u32) {
+    io::print_decimal(STDOUT_FILENO, n as u64);
+}
+
+// A number as a value in a line, after a space.
+pub(crate) fn word(n: u32) {
+    text(b" ");
+    decimal(n);
+}
+
+// The same for narrower numbers.
+pub(crate) fn octet(n: u8) {
+    word(n as u32);
+}
+
+pub(crate) fn half(n: u16) {
+    word(n as u32);
+}
+
+// The start of the line of entry k.
+pub(crate) fn entry(name: &[u8], k: u32) {
+    text(name);
+    word(k);
+}
+
+pub(crate) fn truth(b: bool) {
+    if b {
+        text(b" 1");
+    } else {
+        text(b" 0");
+    }
+}
+
+// The bits of a float, those of one NaN for any NaN.
+pub(crate) fn bits(x: f32) -> u32
+    ensures { λ r. ⌜ r ≡ toBits binary32 x ⌝ }
+{
+    if x != x { 0x7fc00000 } else { f32::to_bits(x) }
+}
+
+// The same for f64.
+fn wide_bits(x: f64) -> u64
+    ensures { λ r. ⌜ r ≡ toBits binary64 x ⌝ }
+{
+    if x != x {
+        0x7ff8000000000000
+    } else {
+        f64::to_bits(x)
+    }
+}
+
+pub(crate) fn single(x: f32) {
+    if x != x {
+        text(b" nan");
+    } else {
+        text(b" ");
+        io::print_hex(STDOUT_FILENO, bits(x) as u64, 8);
+    }
+}
+
+pub(crate) fn double(x: f64) {
+    if x != x {
+        text(b" nan");
+    } else {
+        text(b" ");
+        io::print_hex(STDOUT_FILENO, wide_bits(x), 16);
+    }
+}
+
+// The 16 bits of a number with a sign.
+pub(crate) fn pattern(x: i16) -> u32
+    ensures { λ r. ⌜ (r ≡ ofZ w16 x) × (r < 65536) ⌝ }
+{
+    if x < 0 {
+        65535 - ((-1 - x) as u32)
+    } else {
+        x as u32
+    }
+}
+
+pub(crate) fn signed(x: i16) {
+    let h = pattern(x);
+    if h < 32768 {
+        word(h);
+    } else {
+        text(b" -");
+        decimal(65536 - h);
+    }
+}
+
+// Document 01's number of an answer.
+fn number_of(a: Answer) -> u32
+    ensures { λ r. ⌜ r ≡ number a ⌝ }
+{
+    match a {
+        Answer::Done => 0,
+        Answer::Told(_) => 0,
+        Answer::BadLoad(_, _) => 1,
+        Answer::BadCull(_, _) => 2,
+        Answer::NotLoaded(_) => 3,
+        Answer::NoCode(_) => 4,
+        Answer::BadModify(_, _) => 5,
+        Answer::NeverLoaded(_) => 6,
+        Answer::ShortData(_) => 7,
+        Answer::ShortArea(_) => 8,
+        Answer::NoRoom(_) => 9,
+        Answer::BadState => 10,
+    }
+}
+
+// What is returned with the number: the first `count` of these.
+struct Values {
+    count: u8,
+    first: u32,
+    second: u32,
+}
+
+fn one(x: u32) -> Values
+    ensures { λ r. ⌜ take (r .count) (r .first ∷ r .second ∷ []) ≡ x ∷ [] ⌝ }
+{
+    Values {
+        count: 1,
+        first: x,
+        second: 0,
+    }
+}
+
+fn two(x: u32, y: u32) -> Values
+    ensures { λ r. ⌜ take (r .count) (r .first ∷ r .second ∷ []) ≡ x ∷ y ∷ [] ⌝ }
+{
+    Values {
+        count: 2,
+        first: x,
+        second: y,
+    }
+}
+
+fn none() -> Values
+    ensures { λ r. ⌜ take (r .count) (r .first ∷ r .second ∷ []) ≡ [] ⌝ }
+{
+    Values {
+        count: 0,
+        first: 0,
+        second: 0,
+    }
+}
+
+fn values_of(a: Answer) -> Values
+    ensures { λ r. ⌜ take (r .count) (r .first ∷ r .second ∷ []) ≡ values a ⌝ }
+{
+    match a {
+        Answer::Done => none(),
+        Answer::Told(n) => one(n),
+        Answer::BadLoad(count, first) => two(count, first),
+        Answer::BadCull(first, last) => two(first, last),
+        Answer::NotLoaded(slot) => one(slot),
+        Answer::NoCode(slot) => one(slot),
+        Answer::BadModify(slot, attribute) => two(slot, attribute),
+        Answer::NeverLoaded(slot) => one(slot),
+        Answer::ShortData(length) => one(length),
+        Answer::ShortArea(table) => one(table),
+        Answer::NoRoom(table) => one(table),
+        Answer::BadState => none(),
+    }
+}
+
+fn print_values(v: Values) {
+    if v.count > 0 {
+        word(v.first);
+    }
+    if v.count > 1 {
+        word(v.second);
+    }
+}
+
+// The name of an op.
+fn command(op: u8) {
+    match op {
+        ops::OPEN => text(b" open"),
+        ops::MATRIX => text(b" matrix"),
+        ops::FORCE => text(b" force"),
+        ops::POP => text(b" pop"),
+        ops::GEOM => text(b" geom"),
+        ops::VIEWPORT => text(b" viewport"),
+        _ => setting(op),
+    }
+}
+
+fn setting(op: u8) {
+    match op {
+        ops::TEXTURE => text(b" texture"),
+        ops::FOG => text(b" fog"),
+        ops::LIGHTNUM => text(b" lightnum"),
+        ops::LIGHT => text(b" light"),
+        ops::LOOKAT => text(b" lookat"),
+        ops::UCODE => text(b" ucode"),
+        _ => drawing(op),
+    }
+}
+
+fn drawing(op: u8) {
+    match op {
+        ops::LOAD => text(b" load"),
+        ops::CULL => text(b" cull"),
+        ops::DEPTH => text(b" depth"),
+        ops::MODIFY => text(b" modify"),
+        ops::DRAW => text(b" draw"),
+        ops::INK => text(b" ink"),
+        _ => own(op),
+    }
+}
+
+// The acts of the driver.
+fn own(op: u8) {
+    match op {
+        ops::LEND => text(b" lend"),
+        ops::MARK => text(b" mark"),
+        ops::POKE => text(b" poke"),
+        _ => text(b" write"),
+    }
+}
+
+pub(crate) fn counts(c: Counts) {
+    word(c.matrices);
+    word(c.viewports);
+    word(c.scales);
+    word(c.lights);
+    word(c.lookats);
+    word(c.fogs);
+    word(c.rows);
+    word(c.indices);
+    word(c.runs);
+}
+
+// The line of op number i; `mark` shows the counts.
+pub fn answered(i: usize, op: u8, a: Answer, c: Counts) {
+    io::print_decimal(STDOUT_FILENO, i as u64);
+    command(op);
+    word(number_of(a));
+    print_values(values_of(a));
+    if op == ops::MARK {
+        counts(c);
+    }
+    end();
+}
+
+pub fn too_long(most: usize) {
+    text(b"replay: the trace is longer than ");
+    io::print_decimal(STDOUT_FILENO, most as u64);
+    text(b" bytes\n");
+}
