@@ -22,7 +22,8 @@ use Rattle.triangle.specs.Run.{closed, sameRun}
 use Rattle.triangle.specs.Slot.{held}
 use Rattle.stage.specs.declared.settings.Microcode.the-variants.{F3dex2}
 use Rattle.stage.specs.Plan.{pick, unless, carry, appended, appending}
-use Rattle.stage.specs.Sound.{all, stateSound, limit}
+use Rattle.stage.specs.Sound.{stateSound, limit}
+use Rattle.numbers.specs.Choice.{all}
 use Rattle.stage.specs.Opening.{zeros, blank, openingPlan}
 use Rattle.stage.specs.Opening as start
 use Rattle.stage.specs.Load.{settled, settledState, sharedBy, loadEdits, loadPlan}

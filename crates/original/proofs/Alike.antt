@@ -4,7 +4,7 @@ use Prim.Native.Nat.{ℕ, zero, suc, _+_, _-_, _*_, _/_, _%_, _^_, _≤_, _<_}
 use native.Mathlib.Nat.{zero-add, zero-mul, one-mul, mul-div-cancel}
 use native.Mathlib.Numerals.{add-one}
 use native.Mathlib.Omega.{arith}
-use mathlib.Core.Bool.{Bool, true, false, not, _&&_, _||_, cond, Bool·beq}
+use mathlib.Core.Bool.{Bool, true, false, not, _&&_, _||_, cond, Bool·beq, and-assoc, and-true}
 use mathlib.Core.List.{List, [], _∷_, _++_, map, map-append}
 use mathlib.Core.Option.{Option, none, some}
 use lib.ListN.{length, getD}
@@ -29,7 +29,6 @@ use Rattle.fold.specs.Direction.{three, folded}
 use Rattle.fold.specs.Fog.{find}
 use Rattle.fold.specs.Lights.{lightEntry, directional}
 use Rattle.fold.specs.Lookat.{lookatEntry}
-use Rattle.stage.proofs.Judged.{and-assoc, and-true}
 use Rattle.original.specs.Math.{f0, f1, ix, mul4, mul-row-vec4, mul-col-vec3}
 use Rattle.original.specs.Rsp.{has, g-mtx-push, g-mtx-load, g-mtx-projection, g-lighting, g-texture-gen, g-texture-gen-linear, g-fog-geom, g-cull-front, g-cull-both, eq-mat, eq-entry, last-is, popped-size}
 use Rattle.original.specs.Drawing.{eq2, unit-length, fold-lights, texgen-of, position, plane, clip-code, screen-of}

@@ -30,7 +30,8 @@ use Rattle.stage.specs.Modify.{moved, asking, changed, changePlan, modifyPlan}
 use Rattle.triangle.specs.Run.{closed, sameRun}
 use Rattle.triangle.specs.Slot.{held}
 use Rattle.stage.specs.Plan.{Plan, refuse, does, pick, unless, appended, appending}
-use Rattle.stage.specs.Sound.{all, stateSound, limit}
+use Rattle.stage.specs.Sound.{stateSound, limit}
+use Rattle.numbers.specs.Choice.{all}
 use Rattle.stage.specs.Opening.{zeros, blank}
 use Rattle.stage.specs.Opening as start
 use Rattle.stage.specs.Matrices.{combine, turned, matrixPlan, popPlan, viewing, viewportPlan, geometryPlan}

@@ -9,13 +9,13 @@ use Rattle.layout.specs.Layout.{entryAt, tripleAt, viewportAt, vertexAt}
 use Rattle.areas.specs.Area.{put, write, matches}
 use Rattle.decide.specs.Family.{texgenMode}
 use Rattle.decide.specs.Steps.{firstShort}
-use Rattle.numbers.specs.Choice.{pick}
+use Rattle.numbers.specs.Choice.{pick, all}
 use Rattle.fold.specs.Fog.{find}
 use Rattle.fold.specs.Scales.{sameScale}
 use Rattle.fold.specs.Decision.{refold}
 use Rattle.vertex.specs.Vertices.{floatsOf, wordsOf, clipOf, slotAt, slotOf, verticesAt}
 use Rattle.stage.specs.Plan.{unless, carry, appended, appending}
-use Rattle.stage.specs.Sound.{all, stateSound}
+use Rattle.stage.specs.Sound.{stateSound}
 use Rattle.stage.specs.Opening.{blank, openingPlan}
 use Rattle.stage.specs.Opening as opening
 use Rattle.stage.specs.Matrices.{viewing, viewportPlan}

@@ -16,7 +16,8 @@ use Rattle.matrix.proofs.Believe.{length-laid}
 use Rattle.stage.specs.declared.State.{State}
 use Rattle.stage.specs.declared.Counts.{Counts}
 use Rattle.stage.specs.Plan.{grow, Plan, refuse, does, unless, carry}
-use Rattle.stage.specs.Sound.{all, stateSound, sound}
+use Rattle.stage.specs.Sound.{stateSound, sound}
+use Rattle.numbers.specs.Choice.{all}
 use Rattle.stage.specs.With.{withCounts}
 use Rattle.stage.specs.Opening.{zeros, blank, opened, openingEdits, openingPlan, areas12}
 use Rattle.stage.specs.Matrices.{matrixPlan, forcePlan, popPlan, viewportPlan, geometryPlan}

@@ -3,11 +3,12 @@ use mathlib.Core.Path.{_≡_, refl}
 use Prim.Native.Nat.{ℕ, zero, suc, _≤_}
 use mathlib.Core.List.{List, [], _∷_}
 use lib.ListN.{getD}
-use mathlib.Core.Bool.{Bool, true, false, _&&_, false≢true}
+use mathlib.Core.Bool.{Bool, true, false, _&&_, false≢true, and-assoc}
 use borrow.Author.Tests.{leb-true}
 use Rattle.areas.specs.Widths.{most}
 use Rattle.stage.specs.declared.State.{State}
-use Rattle.stage.specs.Sound.{all, stateSound}
+use Rattle.stage.specs.Sound.{stateSound}
+use Rattle.numbers.specs.Choice.{all}
 
 -- each of some tests that all hold
 every : (bs : List Bool) → all bs ≡ true → (i : ℕ) → getD bs i true ≡ true
@@ -56,14 +57,6 @@ ranges s h =
     }
 
 -- tests joined from the left, as the code joins them
-pub and-assoc : (a b c : Bool) → a && b && c ≡ a && (b && c)
-and-assoc true b c = refl
-and-assoc false b c = refl
-
-pub and-true : (a : Bool) → a && true ≡ a
-and-true true = refl
-and-true false = refl
-
 -- five tests, of which the last stands for those of the counts
 pub joined : (a b c d : Bool) (bs : List Bool) → a && b && c && d && all bs ≡ all (a ∷ b ∷ c ∷ d ∷ bs)
 unfolding all

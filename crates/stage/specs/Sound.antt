@@ -1,17 +1,13 @@
 -- The state's own numbers: what refusal 10 asks of them, before anything else is looked at.
-use mathlib.Core.Bool.{Bool, true, _&&_}
+use mathlib.Core.Bool.{Bool}
 use mathlib.Core.List.{List, [], _∷_}
 use Prim.Native.Nat.{ℕ}
 use lib.Dec.{leb}
+use Rattle.numbers.specs.Choice.{all}
 use Rattle.areas.specs.Widths.{most}
 use Rattle.stage.specs.declared.State.{State}
 use Rattle.stage.specs.declared.Counts.{Counts}
 use Rattle.stage.specs.Plan.{Plan, refuse, unless}
-
--- each of the tests holds
-unfoldable pub all : List Bool → Bool
-all [] = true
-all (b ∷ bs) = b && all bs
 
 -- table counts to 1,048,576, from 1 in tables 1 and 2
 abbrev pub countTests : Counts → List Bool

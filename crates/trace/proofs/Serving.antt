@@ -5,7 +5,7 @@ use mathlib.Core.Bool.{Bool, true, false, false≢true}
 use mathlib.Core.List.{List, [], _∷_}
 use lib.ListN.{getD}
 use borrow.Author.Tests.{leb-true}
-use Rattle.stage.specs.Sound.{all}
+use Rattle.numbers.specs.Choice.{all}
 use Rattle.trace.specs.declared.rooms.Lengths.{Lengths}
 use Rattle.trace.specs.Header.{Within, withinTests}
 

@@ -1,7 +1,7 @@
 // Reads and judges the header.
 ghost use mathlib.Core.Path.{_≡_};
 ghost use lib.Dec.{eqb};
-ghost use Rattle.stage.specs.Sound.{all};
+ghost use Rattle.numbers.specs.Choice.{all};
 ghost use Rattle.trace.specs.Script.{wordAt};
 ghost use Rattle.trace.specs.Header.{lengthsOf, withinTests};
 use crate::rooms;

@@ -1,5 +1,5 @@
-use Rattle.stage.proofs.Judged.{and-assoc, and-true}
-use Rattle.stage.specs.Sound.{all}
+use mathlib.Core.Bool.{and-assoc, and-true}
+use Rattle.numbers.specs.Choice.{all}
 use Rattle.stage.proofs.matrices.sound_counts.Statement.{statement}
 use Rattle.stage.proofs.matrices.sound_counts.Tie as tie
 

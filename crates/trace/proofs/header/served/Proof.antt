@@ -1,6 +1,6 @@
--- `replay::header::served` meets its contract. Assumes nothing.
-use Rattle.stage.specs.Sound.{all}
-use Rattle.stage.proofs.Judged.{and-assoc, and-true}
+-- `trace::header::served` meets its contract. Assumes nothing.
+use mathlib.Core.Bool.{and-assoc, and-true}
+use Rattle.numbers.specs.Choice.{all}
 use Rattle.trace.proofs.header.served.Statement.{statement}
 use Rattle.trace.proofs.header.served.Tie as tie
 
