@@ -1,4 +1,4 @@
--- `replay::act::lent_after` meets its contract. Assumes nothing.
+-- `player::act::lent_after` meets its contract. Assumes nothing.
 use borrow.Author.Tests.{eq-eqb, ne-eqb}
 use Rattle.numbers.specs.Choice.{pick}
 use Rattle.player.specs.Acts.{lentAfter}

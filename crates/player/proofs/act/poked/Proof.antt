@@ -1,4 +1,4 @@
--- `replay::act::poked` meets its contract. Assumes nothing.
+-- `player::act::poked` meets its contract. Assumes nothing.
 use mathlib.Core.Path.{sym}
 use Prim.Native.Nat.{zero-le}
 use lib.ListN.{List·getD-eq-default}

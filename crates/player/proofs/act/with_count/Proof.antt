@@ -1,7 +1,6 @@
--- `replay::act::with_count` meets its contract. Assumes nothing.
+-- `player::act::with_count` meets its contract. Assumes nothing.
 use mathlib.Core.Path.{ap}
 use Rattle.player.specs.Acts.{countList, countsOf}
--- `replay::act::with_count` meets its contract. Assumes nothing.
 use native.Mathlib.Omega.{arith}
 use Rattle.player.proofs.Acting.{no-table, past}
 use Rattle.player.proofs.act.with_count.Statement.{statement}

@@ -1,9 +1,7 @@
--- `replay::act::with_length` meets its contract. Assumes nothing.
+-- `player::act::with_length` meets its contract. Assumes nothing.
 use Prim.Native.Nat.{zero-le}
 use Rattle.player.proofs.Acting.{past}
--- `replay::act::with_length` meets its contract. Assumes nothing.
 use Rattle.player.specs.Acts.{lengthList}
--- `replay::act::with_length` meets its contract. Assumes nothing.
 use native.Mathlib.Omega.{arith}
 use mathlib.Core.Path.{sym}
 use lib.Seq.{set-out}

@@ -1,4 +1,4 @@
--- `replay::act::write` meets its contract. Assumes nothing.
+-- `player::act::write` meets its contract. Assumes nothing.
 use mir.Syntax.{w16}
 use Rattle.layout.proofs.Signed.{handed}
 use Rattle.player.specs.Acts.{writtenTo}

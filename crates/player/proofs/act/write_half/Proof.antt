@@ -1,4 +1,4 @@
--- `replay::act::write_half` meets its contract. Assumes nothing.
+-- `player::act::write_half` meets its contract. Assumes nothing.
 use mir.Facts.{toZ-ofZ}
 use Rattle.numbers.specs.Choice.{pick}
 use borrow.Author.Needs.{needs}

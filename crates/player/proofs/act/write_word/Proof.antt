@@ -1,4 +1,4 @@
--- `replay::act::write_word` meets its contract. Assumes nothing.
+-- `player::act::write_word` meets its contract. Assumes nothing.
 use Rattle.numbers.specs.Choice.{pick}
 use borrow.Author.Needs.{needs}
 use Rattle.player.proofs.act.write_word.Statement.{statement}

@@ -1,4 +1,4 @@
--- `replay::apply::apply` meets its contract. Assumes nothing.
+-- `player::apply::apply` meets its contract. Assumes nothing.
 use mathlib.Core.Path.{refl}
 use borrow.Author.Needs.{needs}
 use Rattle.player.proofs.apply.apply.Statement.{statement}

@@ -1,4 +1,4 @@
--- `replay::apply::lend` meets its contract. Assumes nothing.
+-- `player::apply::lend` meets its contract. Assumes nothing.
 use Rattle.trace.proofs.Reading.{front}
 use Rattle.player.proofs.Applied.{lend-is}
 use borrow.Author.Needs.{needs}

@@ -1,4 +1,4 @@
--- `replay::apply::microcode` meets its contract. Assumes nothing.
+-- `player::apply::microcode` meets its contract. Assumes nothing.
 use mathlib.Core.Path.{_∙_}
 use borrow.Author.Tests.{ne-eqb}
 use borrow.Author.Needs.{needs}

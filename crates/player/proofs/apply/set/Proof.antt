@@ -1,4 +1,4 @@
--- `replay::apply::set` meets its contract. Assumes nothing.
+-- `player::apply::set` meets its contract. Assumes nothing.
 use mir.Syntax.{w16}
 use Rattle.layout.proofs.Signed.{handed}
 use borrow.Author.Needs.{needs}

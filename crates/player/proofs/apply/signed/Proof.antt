@@ -1,4 +1,4 @@
--- `replay::apply::signed` meets its contract. Assumes nothing.
+-- `player::apply::signed` meets its contract. Assumes nothing.
 use mir.Syntax.{w16}
 use Rattle.layout.proofs.Signed.{handed}
 use borrow.Author.Needs.{needs}

@@ -1,4 +1,4 @@
--- `replay::apply::step` meets its contract. Assumes nothing.
+-- `player::apply::step` meets its contract. Assumes nothing.
 use mathlib.Core.Path.{_∙_}
 use Rattle.player.proofs.Applied.{step-is}
 use borrow.Author.Needs.{needs}

@@ -1,4 +1,4 @@
--- `replay::apply::texture` meets its contract. Assumes nothing.
+-- `player::apply::texture` meets its contract. Assumes nothing.
 use mathlib.Core.Path.{_∙_}
 use borrow.Author.Needs.{needs}
 use Rattle.player.proofs.apply.texture.Statement.{statement}

@@ -1,4 +1,4 @@
--- `replay::apply::turn` meets its contract. Assumes nothing.
+-- `player::apply::turn` meets its contract. Assumes nothing.
 use borrow.Author.Needs.{needs}
 use Rattle.player.proofs.apply.turn.Statement.{statement}
 use Rattle.player.proofs.apply.turn.Tie as tie

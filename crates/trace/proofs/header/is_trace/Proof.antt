@@ -1,4 +1,4 @@
--- `replay::header::is_trace` meets its contract. Assumes nothing.
+-- `trace::header::is_trace` meets its contract. Assumes nothing.
 use borrow.Author.Needs.{needs}
 use Rattle.trace.proofs.header.is_trace.Statement.{statement}
 use Rattle.trace.proofs.header.is_trace.Tie as tie

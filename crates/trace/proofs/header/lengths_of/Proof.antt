@@ -1,4 +1,4 @@
--- `replay::header::lengths_of` meets its contract. Assumes nothing.
+-- `trace::header::lengths_of` meets its contract. Assumes nothing.
 use borrow.Author.Needs.{needs}
 use Rattle.trace.proofs.header.lengths_of.Statement.{statement}
 use Rattle.trace.proofs.header.lengths_of.Tie as tie

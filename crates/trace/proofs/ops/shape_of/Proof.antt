@@ -1,4 +1,4 @@
--- `replay::ops::shape_of` meets its contract. Assumes nothing.
+-- `trace::ops::shape_of` meets its contract. Assumes nothing.
 use mathlib.Core.Path.{refl}
 use mathlib.Core.Bool.{true, false}
 use mathlib.Core.List.{[], _∷_}

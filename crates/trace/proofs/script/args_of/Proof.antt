@@ -1,4 +1,4 @@
--- `replay::script::args_of` meets its contract. Assumes nothing.
+-- `trace::script::args_of` meets its contract. Assumes nothing.
 use borrow.Author.Needs.{needs}
 use Rattle.trace.proofs.script.args_of.Statement.{statement}
 use Rattle.trace.proofs.script.args_of.Tie as tie

@@ -1,4 +1,4 @@
--- `replay::script::byte` meets its contract. Assumes nothing.
+-- `trace::script::byte` meets its contract. Assumes nothing.
 use native.Mathlib.Omega.{arith}
 use mathlib.Core.Path.{sym}
 use lib.ListN.{List·getD-eq-default}

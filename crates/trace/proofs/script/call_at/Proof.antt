@@ -1,4 +1,4 @@
--- `replay::script::call_at` meets its contract. Assumes nothing.
+-- `trace::script::call_at` meets its contract. Assumes nothing.
 use native.Mathlib.Omega.{arith}
 use Prim.Native.Nat.{_+_}
 use borrow.Author.Tests.{not-true, not-false}

@@ -1,4 +1,4 @@
--- `replay::script::data_of` meets its contract. Assumes nothing.
+-- `trace::script::data_of` meets its contract. Assumes nothing.
 use Rattle.numbers.specs.Choice.{pick}
 use Rattle.trace.specs.Script.{dataOf}
 use borrow.Author.Needs.{needs}

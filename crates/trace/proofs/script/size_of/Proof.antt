@@ -1,4 +1,4 @@
--- `replay::script::size_of` meets its contract. Assumes nothing.
+-- `trace::script::size_of` meets its contract. Assumes nothing.
 use native.Mathlib.Omega.{arith}
 use Rattle.numbers.specs.Choice.{pick}
 use Rattle.trace.specs.Script.{sizeOf}
