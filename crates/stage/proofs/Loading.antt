@@ -24,6 +24,7 @@ use Rattle.fold.specs.Fog.{find}
 use Rattle.fold.specs.Lookat.{lookatEntry}
 use Rattle.fold.proofs.Believe.{length-lights, find-first}
 use Rattle.vertex.specs.declared.Shared.{Shared}
+use Rattle.vertex.specs.Steps.{RowsFit, Laid, Marked}
 use Rattle.vertex.specs.Vertices.{floatsOf, wordsOf, verticesAt}
 use Rattle.vertex.proofs.Believe.{length-vertices}
 use Rattle.stage.specs.declared.State.{State}
@@ -32,16 +33,17 @@ use Rattle.stage.specs.declared.Lights.{Lights}
 use Rattle.stage.specs.declared.Lookat.{Lookat}
 use Rattle.stage.specs.declared.Answer.{Answer}
 use Rattle.stage.specs.declared.Answer.the-variants.{Done, Told, BadState, BadLoad, ShortData, ShortArea, NoRoom}
+use Rattle.stage.proofs.Filling.{loaded-by}
 use Rattle.stage.proofs.Answer.{the-type}
 use Rattle.stage.specs.declared.load.Settled.{Settled}
 use Rattle.stage.specs.declared.load.More.{More}
 use Rattle.stage.specs.declared.load.Rooms.{Rooms}
 use Rattle.stage.specs.Plan.{Edits, onlyIf, Plan, judge, more, pick, rowsOf, untouched, advance, Outcome, outcome, carry}
-use Rattle.stage.specs.Load.{settled, settledState, lightsThen, lookatThen, sharedBy, loadEdits, loadDone, loadPlan, vertexRow, LoadAreas, loadTables, loadLent, areasLoad, fogPair}
+use Rattle.stage.specs.Load.{settled, settledState, lightsThen, lookatThen, sharedBy, loadEdits, loadDone, loadPlan, vertexRow, LoadAreas, loadTables, loadLent, areasLoad, fogPair, loadAreas}
 use Rattle.stage.specs.Sound.{stateSound, limit}
 use Rattle.stage.specs.Rows.{fillSlots}
-use Rattle.stage.specs.With.{withCounts, withCombined, withLights, withLookat}
-use Rattle.stage.specs.Steps.{sixLent, roomsOf, moreBy, noMore, earlyAnswer, lateAnswer, advanceTables, Ranged, TablesAre, RowsFit, RowsLaid}
+use Rattle.stage.specs.With.{withCounts, withCombined, withLights, withLookat, Slots, slotsOf, withSlots}
+use Rattle.stage.specs.Steps.{sixLent, roomsOf, moreBy, noMore, earlyAnswer, lateAnswer, advanceTables, Ranged, TablesAre, RowsLaid}
 use Rattle.stage.proofs.Judged.{Ranges, ranges, and-right}
 use Rattle.stage.proofs.Tabled.{Numbered, fits-first, table-refused, table-passed}
 use Rattle.stage.proofs.Cascade.{refused, passed}
@@ -215,6 +217,10 @@ pub record Sized (s : State) (l : LoadAreas) (first count at : ℕ) (bytes : Lis
   pub fits : shortOf s rooms ≡ 0
   pub is-settled : d ≡ settled (familyOf (s .microcode)) s (entries matrixWidth (s .counts .matrices) (l .matrices)) (entries scaleWidth (s .counts .scales) (l .scales)) (entries fogWidth (s .counts .fogs) (l .fogs))
 
+-- the tags of every answer but Told
+abbrev pub untold : List ℕ
+untold = 0 ∷ 2 ∷ 3 ∷ 4 ∷ 5 ∷ 6 ∷ 7 ∷ 8 ∷ 9 ∷ 10 ∷ 11 ∷ []
+
 -- ---- the load's ways out, each by the tests that lead there
 module _ (s : State) (l : LoadAreas) (first count at : ℕ) (bytes : List ℕ) where
   abbrev load-plan : Plan
@@ -333,10 +339,6 @@ module _ (s : State) (l : LoadAreas) (first count at : ℕ) (bytes : List ℕ) w
     abbrev told : ℕ
     told = pick (s .defined) 0 1
 
-    -- the tags of every answer but Told
-    abbrev untold : List ℕ
-    untold = 0 ∷ 2 ∷ 3 ∷ 4 ∷ 5 ∷ 6 ∷ 7 ∷ 8 ∷ 9 ∷ 10 ∷ 11 ∷ []
-
     late-refuses : (b : Bool) → eqb full 0 ≡ b → OneOf untold (tagOf the-type (pick b (Told told) (NoRoom full))) → Refuses (pick b (Told told) (NoRoom full))
     unfolding pick
     late-refuses false e o = way-full (eqb-false _ _ e)
@@ -380,3 +382,68 @@ pub settled-then : (s : State) (d : Settled) {l : Lights} {o : Lookat} → l ≡
     → withLookat (withLights (withCombined s (d .combined) (s .defined)) l) o ≡ settledState d s
 unfolding settledState
 settled-then s d p q = λ i. withLookat (withLights (withCombined s (d .combined) (s .defined)) (p i)) (q i)
+
+-- ---- the two ways out behind the early answer, by what the calls promise
+module _ (s : State) (l : LoadAreas) (first count at : ℕ) (bytes : List ℕ) (r : Rooms)
+    (is-rooms : r ≡ roomsOf (length (l .matrices)) (length (l .scales)) (length (l .lights)) (length (l .lookats)) (length (l .fogs)) (length (l .floats)) (length (l .words)))
+    (a₁ : Answer)
+    (is-early : a₁ ≡ earlyAnswer s first count (length bytes) at r)
+    (went-on : tagOf the-type a₁ ≡ 0)
+    (d : Settled)
+    (is-settled : d ≡ settled (familyOf (s .microcode)) s (entries matrixWidth (s .counts .matrices) (l .matrices)) (entries scaleWidth (s .counts .scales) (l .scales)) (entries fogWidth (s .counts .fogs) (l .fogs)))
+    (a₂ : Answer)
+    (is-late : a₂ ≡ lateAnswer d s count r) where
+  sized : Sized s l first count at bytes r d
+  sized =
+      let j = passed-early s l first count at bytes r is-rooms a₁ is-early went-on in
+      record { roomed = record { judged = j .0; is-rooms = is-rooms }; fits = j .1; is-settled = is-settled }
+
+  -- the load is refused late
+  pub refused-late : OneOf untold (tagOf the-type a₂) → outcome (record { state = s; answer = a₂ }) l ≡ carry areasLoad (load-plan s l first count at bytes) s l
+  refused-late o = way-late s l first count at bytes r d sized a₂ is-late o
+
+  -- the load is done
+  module _ (told : tagOf the-type a₂ ≡ 1) (e : Shared) (m : List (List Float)) (c : Counts) (li : Lights) (lo : Lookat) (q : Slots) (x : LoadAreas)
+      (is-shared : e ≡ sharedBy d s)
+      (is-matrix : m ≡ rows (d .combined) 0)
+      (tables : TablesAre d s count (loadEdits d s []) c (l .matrices) (l .scales) (l .lights) (l .lookats) (l .fogs) (x .matrices) (x .scales) (x .lights) (x .lookats) (x .fogs))
+      (is-lights : li ≡ lightsThen d s)
+      (is-lookat : lo ≡ lookatThen d s)
+      (laid : Laid m e bytes at first (s .counts .rows) count (l .floats) (l .words) (s .coded) (s .code) (s .deep) (s .z) (x .floats) (x .words) (q .coded) (q .code) (q .deep) (q .z))
+      (marked : Marked first (s .counts .rows) count (s .row) (s .ever) (s .loaded) (s .drawn) (q .row) (q .ever) (q .loaded) (q .drawn)) where
+    -- the state before its rows and counts, as the code sets it
+    abbrev settling : State
+    settling = withLookat (withLights (withCombined s (d .combined) (s .defined)) li) lo
+
+    pub done : outcome (record { state = withSlots (withCounts settling c) q; answer = a₂ }) x ≡ carry areasLoad (load-plan s l first count at bytes) s l
+    done =
+        let f = passed-late s l first count at bytes r d sized a₂ is-late told in
+        way-done s l first count at bytes r d sized (f .0) _
+        (load-done s settling (withSlots settling q) d e m c (verticesAt bytes at count) first count a₂ l x (settled-then s d is-lights is-lookat) is-shared is-matrix tables
+        (loaded-by {s = settling} {l = q} laid marked) (f .1) (length-vertices bytes at count))
+
+-- what a load leaves is known by the state, its columns, its answer and its areas, each by itself
+module _ (g g′ : State) (c c′ : Slots) (a a′ : Answer) (k k′ : LoadAreas) where
+  pub left : {o : Outcome LoadAreas}
+      → g ≡ g′
+      → c .row ≡ c′ .row
+      → c .ever ≡ c′ .ever
+      → c .loaded ≡ c′ .loaded
+      → c .drawn ≡ c′ .drawn
+      → c .coded ≡ c′ .coded
+      → c .code ≡ c′ .code
+      → c .deep ≡ c′ .deep
+      → c .z ≡ c′ .z
+      → a ≡ a′
+      → k .matrices ≡ k′ .matrices
+      → k .scales ≡ k′ .scales
+      → k .lights ≡ k′ .lights
+      → k .lookats ≡ k′ .lookats
+      → k .fogs ≡ k′ .fogs
+      → k .floats ≡ k′ .floats
+      → k .words ≡ k′ .words
+      → outcome (record { state = withSlots g′ c′; answer = a′ }) k′ ≡ o
+      → outcome (record { state = withSlots g c; answer = a }) k ≡ o
+  left eg e₁ e₂ e₃ e₄ e₅ e₆ e₇ e₈ ea x₁ x₂ x₃ x₄ x₅ x₆ x₇ h =
+      (λ i. outcome (record { state = withSlots (eg i) (record { row = e₁ i; ever = e₂ i; loaded = e₃ i; drawn = e₄ i; coded = e₅ i; code = e₆ i; deep = e₇ i; z = e₈ i }); answer = ea i }) (loadAreas (x₁ i) (x₂ i) (x₃ i) (x₄ i) (x₅ i) (x₆ i) (x₇ i)))
+      ∙ h

@@ -135,14 +135,6 @@ lateAnswer d s count r =
     let full = firstShort (sixLent (s .counts) (moreBy d s count) r) in
     pick (eqb full 0) (Told (pick (s .defined) 0 1)) (NoRoom full)
 
--- what has been judged before the first row is written, behind n rows in use: the slots, the bytes, the count of rows, and room in both areas
-pub record RowsFit (n first count at : ℕ) (b : List ℕ) (f : List Float) (w : List ℕ) : Type 0 where
-  pub slots : first + count ≤ 256
-  pub bytes : at + 16 * count ≤ length b
-  pub rows : n + count ≤ most
-  pub floats : (n + count) * floatWidth ≤ length f
-  pub words : (n + count) * wordWidth ≤ length w
-
 -- what the state s and the areas f and w have become, once the vertices vs have their rows behind those in use and their slots from first on
 pub record RowsLaid (s : State) (m : List (List Float)) (e : Shared) (first : ℕ) (vs : List Vertex) (f : List Float) (w : List ℕ) (s′ : State) (f′ : List Float) (w′ : List ℕ) : Type 0 where
   pub state : s′ ≡ fillSlots s m e first (s .counts .rows) vs

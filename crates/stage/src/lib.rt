@@ -50,14 +50,12 @@ pub struct Lookat {
 }
 
 // All that the commands keep between them. A value under a cleared mark is 0, so that a state is determined. In this
-// order what a change of a slot leaves alone lies in one piece, and costs no copy (docs/SPEED.md).
+// order a command takes out the columns that it writes, and the rest costs no copy (docs/SPEED.md).
 pub struct State {
-    pub opened: bool,
     // The model stack: `depth` matrices of sixteen numbers in use, the last of them the top.
-    pub depth: u32,
-    pub lights: Lights,
-    pub lookat: Lookat,
     pub stack: [f32; 512],
+    pub opened: bool,
+    pub depth: u32,
     // 0 is F3dex2, 1 is F3dex2NoN.
     pub microcode: u8,
     pub fogmul: i16,
@@ -69,6 +67,8 @@ pub struct State {
     pub viewport: [f32; 6],
     pub projection: [f32; 16],
     pub combined: [f32; 16],
+    pub lights: Lights,
+    pub lookat: Lookat,
     // The slots: whether each was loaded since opening, is loaded, has a clip code, its clip code, and whether it has a
     // screen z; and below, whether it was drawn since its row was made, its row, and its screen z.
     pub ever: [bool; 256],
@@ -76,12 +76,12 @@ pub struct State {
     pub coded: [bool; 256],
     pub code: [u8; 256],
     pub deep: [bool; 256],
-    // The place of the unit scale entry plus 1, or 0 where there is none yet.
-    pub unit: u32,
     pub counts: Counts,
     pub drawn: [bool; 256],
     pub row: [u32; 256],
     pub z: [f64; 256],
+    // The place of the unit scale entry plus 1, or 0 where there is none yet.
+    pub unit: u32,
 }
 
 // What a command answers. `Done` and `Told` are number 0; the refusals stand in the order of their numbers, 1 to 10.

@@ -401,6 +401,14 @@ impl State {
             floats.len(),
             words.len(),
         );
+        let mut row = self.row;
+        let mut ever = self.ever;
+        let mut loaded = self.loaded;
+        let mut drawn = self.drawn;
+        let mut coded = self.coded;
+        let mut code = self.code;
+        let mut deep = self.deep;
+        let mut z = self.z;
         let mut answer = self.early(first, count, data.len(), at, rooms);
         if let Answer::Done = answer {
             let stack = self.stack;
@@ -415,25 +423,38 @@ impl State {
                 let m = matrix::math::from_flat(combined);
                 let l = lights_then(self.lights, d.newlights, model, self.counts.lights);
                 let o = lookat_then(self.lookat, d.newlookat, model, self.counts.lookats);
+                let k = first as usize;
+                let c = count as usize;
+                vertex::lay_all(
+                    floats,
+                    words,
+                    &mut coded,
+                    &mut code,
+                    &mut deep,
+                    &mut z,
+                    k,
+                    n,
+                    c,
+                    m,
+                    e,
+                    data,
+                    at,
+                );
+                vertex::mark_all(&mut row, &mut ever, &mut loaded, &mut drawn, k, n, c);
                 self.combined = combined;
                 self.lights = l;
                 self.lookat = o;
-                for i in 0..(count as usize) {
-                    let row = n + i;
-                    let s = vertex::lay(floats, words, row, m, e, data, at + 16 * i);
-                    let k = (first as usize) + i;
-                    self.row[k] = row as u32;
-                    self.ever[k] = true;
-                    self.loaded[k] = true;
-                    self.drawn[k] = false;
-                    self.coded[k] = s.coded;
-                    self.code[k] = s.code;
-                    self.deep[k] = s.deep;
-                    self.z[k] = s.z;
-                }
                 self.counts = counts;
             }
         }
+        self.row = row;
+        self.ever = ever;
+        self.loaded = loaded;
+        self.drawn = drawn;
+        self.coded = coded;
+        self.code = code;
+        self.deep = deep;
+        self.z = z;
         Answered {
             state: self,
             answer: answer,

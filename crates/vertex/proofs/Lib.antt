@@ -1,1 +1,2 @@
 pub mod Believe
+pub mod Turns

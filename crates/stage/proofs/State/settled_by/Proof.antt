@@ -68,7 +68,7 @@ returns c =
     (rw fam at (c .before .before .before .before .before .before .before .before .before .before .before .before .before .before .is-lit .ensures))
     (rw fam at (c .before .before .before .before .before .before .before .before .before .before .before .before .before .texgen-mode .ensures))
     (rw fam at (c .before .before .before .before .before .before .before .before .before .before .before .before .is-foggy .ensures))
-    (rw (toZ-ofZ {w = w16} {z = c .before .before .before .before .before .before .before .before .before .before .before .before .before .before .before .before .before .before .before .before .before .before .before .before .args .self .fogmul} (record { sfits = c .before .before .before .before .before .before .before .before .before .before .before .struct-told .given .1 .1 .1 .1 .1 .1 .0 .1 }), toZ-ofZ {w = w16} {z = c .before .before .before .before .before .before .before .before .before .before .before .before .before .before .before .before .before .before .before .before .before .before .before .before .args .self .fogoff} (record { sfits = c .before .before .before .before .before .before .before .before .before .before .struct-told2 .given .1 .1 .1 .1 .1 .1 .1 .0 .1 })) at (c .before .before .before .before .before .before .before .before .before .fog-place .ensures .0))
+    (rw (toZ-ofZ {w = w16} {z = c .before .before .before .before .before .before .before .before .before .before .before .before .before .before .before .before .before .before .before .before .before .before .before .before .args .self .fogmul} (record { sfits = c .before .before .before .before .before .before .before .before .before .before .before .struct-told .given .1 .1 .1 .1 .0 .1 }), toZ-ofZ {w = w16} {z = c .before .before .before .before .before .before .before .before .before .before .before .before .before .before .before .before .before .before .before .before .before .before .before .before .args .self .fogoff} (record { sfits = c .before .before .before .before .before .before .before .before .before .before .struct-told2 .given .1 .1 .1 .1 .1 .0 .1 })) at (c .before .before .before .before .before .before .before .before .before .fog-place .ensures .0))
     (c .before .before .before .before .before .before .last-is .ensures)
     (c .before .before .before .before .before .scale-is .ensures)
     (c .before .before .before .folds .ensures)

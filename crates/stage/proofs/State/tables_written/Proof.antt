@@ -53,7 +53,7 @@ returns c =
     let b = c .before .before .before .before .before .before .before .before .before .before .before .before .before .before .before .put-scales-if .ensures in
     let l = rw (c .before .before .before .before .before .before .before .before .before .before .before .before .before .before .before .before .before .before .before .before .before .before .before .before .before .from-flat .ensures) at (c .before .before .before .before .before .before .before .before .before .before .before .lights-if .ensures) in
     let o = rw (c .before .before .before .before .before .before .before .before .before .before .before .before .before .before .before .before .before .before .before .before .before .before .before .before .before .from-flat .ensures) at (c .before .before .before .before .before .before .before .lookat-if .ensures) in
-    let f = rw (toZ-ofZ {w = w16} {z = s .fogmul} (record { sfits = c .before .before .before .struct-told .given .1 .1 .1 .1 .1 .1 .0 .1 }), toZ-ofZ {w = w16} {z = s .fogoff} (record { sfits = c .before .before .struct-told2 .given .1 .1 .1 .1 .1 .1 .1 .0 .1 })) at (c .before .put-fog-if .ensures) in
+    let f = rw (toZ-ofZ {w = w16} {z = s .fogmul} (record { sfits = c .before .before .before .struct-told .given .1 .1 .1 .1 .0 .1 }), toZ-ofZ {w = w16} {z = s .fogoff} (record { sfits = c .before .before .struct-told2 .given .1 .1 .1 .1 .1 .0 .1 })) at (c .before .put-fog-if .ensures) in
     record {
       counts = λ i. record {
         matrices = put-count (d .newmatrix) _ _ _ _ _ _ a i;
