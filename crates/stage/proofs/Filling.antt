@@ -3,7 +3,7 @@ use Prim.Native.Nat.{ℕ, zero, suc, _+_, _*_}
 use native.Mathlib.Nat.{add-zero}
 use native.Mathlib.Numerals.{add-one}
 use native.Mathlib.Omega.{arith}
-use mathlib.Core.Bool.{Bool, true, false}
+use mathlib.Core.Bool.{true, false}
 use mathlib.Core.Path.{_≡_, refl, sym, ap, _∙_}
 use mathlib.Core.List.{List, [], _∷_, _++_}
 use lib.ListN.{length}
@@ -17,7 +17,7 @@ use Rattle.vertex.proofs.Believe.{length-vertices, vertices-snoc}
 use Rattle.stage.specs.declared.State.{State}
 use Rattle.stage.specs.Rows.{fillSlot, fillSlots}
 use Rattle.stage.specs.Steps.{RowsLaid}
-use Rattle.stage.specs.With.{Slots, slotsOf, withSlots}
+use Rattle.stage.specs.With.{Slots, withSlots}
 
 -- one more vertex fills one more slot
 pub fill-snoc : (s : State) (m : List (List Float)) (e : Shared) (k r : ℕ) (vs : List Vertex) (v : Vertex)

@@ -1,10 +1,11 @@
 -- The load, put together: its judges, and what it leaves. Assumes nothing.
-use mathlib.Core.Path.{_≡_, refl, sym, ap, ap₂, _∙_, subst}
+use mathlib.Core.Path.{_≡_, refl, sym, ap, _∙_, subst}
 use Prim.Native.Nat.{ℕ, zero, suc, _+_, _*_, _≤_, min}
 use native.Mathlib.Omega.{arith}
 use mathlib.Core.Bool.{Bool, true, false, _&&_}
 use lib.Dec.{leb, eqb}
 use borrow.Author.Tests.{leb-true, eqb-true, eqb-false}
+use mathlib.Core.Logic.{_⊎_, ⊎-elim}
 use types.Run.{OneOf, miss}
 use denote.Enum.Declared.{tagOf}
 use mathlib.Core.List.{List, [], _∷_, map}
@@ -42,8 +43,10 @@ use Rattle.stage.specs.Plan.{Edits, onlyIf, Plan, judge, more, pick, row
 use Rattle.stage.specs.Load.{settled, settledState, lightsThen, lookatThen, sharedBy, loadEdits, loadDone, loadPlan, vertexRow, LoadAreas, loadTables, loadLent, areasLoad, fogPair, loadAreas}
 use Rattle.stage.specs.Sound.{stateSound, limit}
 use Rattle.stage.specs.Rows.{fillSlots}
-use Rattle.stage.specs.With.{withCounts, withCombined, withLights, withLookat, Slots, slotsOf, withSlots}
-use Rattle.stage.specs.Steps.{sixLent, roomsOf, moreBy, noMore, earlyAnswer, lateAnswer, advanceTables, Ranged, TablesAre, RowsLaid}
+use Rattle.stage.specs.With.{withCounts, withCombined, withLights, withLookat, Slots, withSlots}
+use Rattle.stage.specs.Steps.{sixLent, roomsOf, moreBy, noMore, earlyAnswer, lateAnswer, advanceTables, Ranged, TablesAre, RowsLaid, settledIn, Refused, Ready}
+use Rattle.stage.specs.declared.load.Prepared.{Prepared}
+use Rattle.stage.specs.Answers.{number}
 use Rattle.stage.proofs.Judged.{Ranges, ranges, and-right}
 use Rattle.stage.proofs.Tabled.{Numbered, fits-first, table-refused, table-passed}
 use Rattle.stage.proofs.Cascade.{refused, passed}
@@ -103,7 +106,7 @@ fits-rows c d s m r count f w e g h =
     let b = room-fits wordWidth w (c .rows + count) (omega arith) in
     (a .1, a .0, b .0)
 
-ranged : (s : State) (d : Settled) (x y : List (List Float)) (n : ℕ) (l : List ℤ) → n ≡ s .counts .fogs → d ≡ settled (familyOf (s .microcode)) s x y (entries fogWidth n l) → Ranges s → Ranged s d
+pub ranged : (s : State) (d : Settled) (x y : List (List Float)) (n : ℕ) (l : List ℤ) → n ≡ s .counts .fogs → d ≡ settled (familyOf (s .microcode)) s x y (entries fogWidth n l) → Ranges s → Ranged s d
 unfolding settled
 ranged s d x y n l g e r =
     record {
@@ -217,7 +220,10 @@ pub record Sized (s : State) (l : LoadAreas) (first count at : ℕ) (bytes : Lis
   pub fits : shortOf s rooms ≡ 0
   pub is-settled : d ≡ settled (familyOf (s .microcode)) s (entries matrixWidth (s .counts .matrices) (l .matrices)) (entries scaleWidth (s .counts .scales) (l .scales)) (entries fogWidth (s .counts .fogs) (l .fogs))
 
--- the tags of every answer but Told
+-- the tags of every answer but Done, and of every answer but Told
+abbrev pub undone : List ℕ
+undone = 1 ∷ 2 ∷ 3 ∷ 4 ∷ 5 ∷ 6 ∷ 7 ∷ 8 ∷ 9 ∷ 10 ∷ 11 ∷ []
+
 abbrev pub untold : List ℕ
 untold = 0 ∷ 2 ∷ 3 ∷ 4 ∷ 5 ∷ 6 ∷ 7 ∷ 8 ∷ 9 ∷ 10 ∷ 11 ∷ []
 
@@ -271,37 +277,33 @@ module _ (s : State) (l : LoadAreas) (first count at : ℕ) (bytes : List ℕ) w
     abbrev judgement : stateSound s ≡ true → (leb count 256 && leb (first + count) 256) ≡ true → leb (at + 16 * count) (length bytes) ≡ true → Roomed s l first count at bytes r
     judgement e₁ e₂ e₃ = record { judged = record { sound = e₁; slots = e₂; reach = e₃ }; is-rooms = is-rooms }
 
-    -- the tags of every answer but Done
-    abbrev others : List ℕ
-    others = 1 ∷ 2 ∷ 3 ∷ 4 ∷ 5 ∷ 6 ∷ 7 ∷ 8 ∷ 9 ∷ 10 ∷ 11 ∷ []
-
     refuses : (b₁ b₂ b₃ b₄ : Bool) → stateSound s ≡ b₁ → (leb count 256 && leb (first + count) 256) ≡ b₂ → leb (at + 16 * count) (length bytes) ≡ b₃ → eqb (shortOf s r) 0 ≡ b₄
-        → OneOf others (tagOf the-type (answered b₁ b₂ b₃ b₄)) → Refuses (answered b₁ b₂ b₃ b₄)
+        → (number (answered b₁ b₂ b₃ b₄) ≡ 0 → ⊥) → Refuses (answered b₁ b₂ b₃ b₄)
     unfolding pick
     refuses false b₂ b₃ b₄ e₁ e₂ e₃ e₄ o = way-state e₁
     refuses true false b₃ b₄ e₁ e₂ e₃ e₄ o = way-slots e₁ e₂
     refuses true true false b₄ e₁ e₂ e₃ e₄ o = way-data e₁ e₂ e₃
     refuses true true true false e₁ e₂ e₃ e₄ o = way-short r (judgement e₁ e₂ e₃) (eqb-false _ _ e₄)
-    refuses true true true true e₁ e₂ e₃ e₄ o = absurd (miss others 0 tt o)
+    refuses true true true true e₁ e₂ e₃ e₄ o = absurd (o refl)
 
     goes-on : (b₁ b₂ b₃ b₄ : Bool) → stateSound s ≡ b₁ → (leb count 256 && leb (first + count) 256) ≡ b₂ → leb (at + 16 * count) (length bytes) ≡ b₃ → eqb (shortOf s r) 0 ≡ b₄
-        → tagOf the-type (answered b₁ b₂ b₃ b₄) ≡ 0 → Judged s first count at bytes × (shortOf s r ≡ 0)
+        → number (answered b₁ b₂ b₃ b₄) ≡ 0 → Judged s first count at bytes × (shortOf s r ≡ 0)
     unfolding pick
-    goes-on false b₂ b₃ b₄ e₁ e₂ e₃ e₄ o = absurd (let z : _≡_ {A = ℕ} 11 0 = o in omega arith)
-    goes-on true false b₃ b₄ e₁ e₂ e₃ e₄ o = absurd (let z : _≡_ {A = ℕ} 2 0 = o in omega arith)
-    goes-on true true false b₄ e₁ e₂ e₃ e₄ o = absurd (let z : _≡_ {A = ℕ} 8 0 = o in omega arith)
-    goes-on true true true false e₁ e₂ e₃ e₄ o = absurd (let z : _≡_ {A = ℕ} 9 0 = o in omega arith)
+    goes-on false b₂ b₃ b₄ e₁ e₂ e₃ e₄ o = absurd (let z : _≡_ {A = ℕ} 10 0 = o in omega arith)
+    goes-on true false b₃ b₄ e₁ e₂ e₃ e₄ o = absurd (let z : _≡_ {A = ℕ} 1 0 = o in omega arith)
+    goes-on true true false b₄ e₁ e₂ e₃ e₄ o = absurd (let z : _≡_ {A = ℕ} 7 0 = o in omega arith)
+    goes-on true true true false e₁ e₂ e₃ e₄ o = absurd (let z : _≡_ {A = ℕ} 8 0 = o in omega arith)
     goes-on true true true true e₁ e₂ e₃ e₄ o = (record { sound = e₁; slots = e₂; reach = e₃ }, eqb-true _ _ e₄)
 
-    -- an early answer that is not Done is the load's
-    pub way-early : (a : Answer) → a ≡ earlyAnswer s first count (length bytes) at r → OneOf others (tagOf the-type a) → Refuses a
+    -- an early answer that refuses is the load's
+    pub way-early : (a : Answer) → a ≡ earlyAnswer s first count (length bytes) at r → (number a ≡ 0 → ⊥) → Refuses a
     unfolding earlyAnswer
-    way-early a q o = subst Refuses (sym q) (refuses _ _ _ _ refl refl refl refl (subst (λ (x : Answer). OneOf others (tagOf the-type x)) q o))
+    way-early a q o = subst Refuses (sym q) (refuses _ _ _ _ refl refl refl refl (λ e. o (ap number q ∙ e)))
 
-    -- where it is, all four tests are passed
-    pub passed-early : (a : Answer) → a ≡ earlyAnswer s first count (length bytes) at r → tagOf the-type a ≡ 0 → Judged s first count at bytes × (shortOf s r ≡ 0)
+    -- where it does not, all four tests are passed
+    pub passed-early : number (earlyAnswer s first count (length bytes) at r) ≡ 0 → Judged s first count at bytes × (shortOf s r ≡ 0)
     unfolding earlyAnswer
-    passed-early a q o = goes-on _ _ _ _ refl refl refl refl (sym (ap (tagOf the-type) q) ∙ o)
+    passed-early o = goes-on _ _ _ _ refl refl refl refl o
 
   module _ (r : Rooms) (d : Settled) (z : Sized s l first count at bytes r d) where
     abbrev vs : List Vertex
@@ -339,25 +341,25 @@ module _ (s : State) (l : LoadAreas) (first count at : ℕ) (bytes : List ℕ) w
     abbrev told : ℕ
     told = pick (s .defined) 0 1
 
-    late-refuses : (b : Bool) → eqb full 0 ≡ b → OneOf untold (tagOf the-type (pick b (Told told) (NoRoom full))) → Refuses (pick b (Told told) (NoRoom full))
+    late-refuses : (b : Bool) → eqb full 0 ≡ b → (number (pick b (Told told) (NoRoom full)) ≡ 0 → ⊥) → Refuses (pick b (Told told) (NoRoom full))
     unfolding pick
     late-refuses false e o = way-full (eqb-false _ _ e)
-    late-refuses true e o = absurd (miss untold 1 tt o)
+    late-refuses true e o = absurd (o refl)
 
-    late-goes-on : (b : Bool) → eqb full 0 ≡ b → tagOf the-type (pick b (Told told) (NoRoom full)) ≡ 1 → (full ≡ 0) × (pick b (Told told) (NoRoom full) ≡ Told told)
+    late-goes-on : (b : Bool) → eqb full 0 ≡ b → number (pick b (Told told) (NoRoom full)) ≡ 0 → (full ≡ 0) × (pick b (Told told) (NoRoom full) ≡ Told told)
     unfolding pick
-    late-goes-on false e o = absurd (let z : _≡_ {A = ℕ} 10 1 = o in omega arith)
+    late-goes-on false e o = absurd (let z : _≡_ {A = ℕ} 9 0 = o in omega arith)
     late-goes-on true e o = (eqb-true _ _ e, refl)
 
-    -- a late answer that is not Told is the load's
-    pub way-late : (a : Answer) → a ≡ lateAnswer d s count r → OneOf untold (tagOf the-type a) → Refuses a
+    -- a late answer that refuses is the load's
+    pub way-late : (a : Answer) → a ≡ lateAnswer d s count r → (number a ≡ 0 → ⊥) → Refuses a
     unfolding lateAnswer
-    way-late a q o = subst Refuses (sym q) (late-refuses _ refl (subst (λ (x : Answer). OneOf untold (tagOf the-type x)) q o))
+    way-late a q o = subst Refuses (sym q) (late-refuses _ refl (λ e. o (ap number q ∙ e)))
 
-    -- where it is, no table is full, and it tells of the matrix
-    pub passed-late : (a : Answer) → a ≡ lateAnswer d s count r → tagOf the-type a ≡ 1 → (full ≡ 0) × (a ≡ Told told)
+    -- where it does not, no table is full, and it tells of the matrix
+    pub passed-late : (a : Answer) → a ≡ lateAnswer d s count r → number a ≡ 0 → (full ≡ 0) × (a ≡ Told told)
     unfolding lateAnswer
-    passed-late a q o = let h = late-goes-on _ refl (sym (ap (tagOf the-type) q) ∙ o) in (h .0, q ∙ h .1)
+    passed-late a q o = let h = late-goes-on _ refl (sym (ap number q) ∙ o) in (h .0, q ∙ h .1)
 
     -- what the writing half asks for
     pub load-ready : full ≡ 0 → Ranged s d × RowsFit (s .counts .rows) first count at bytes (l .floats) (l .words)
@@ -383,44 +385,138 @@ pub settled-then : (s : State) (d : Settled) {l : Lights} {o : Lookat} → l ≡
 unfolding settledState
 settled-then s d p q = λ i. withLookat (withLights (withCombined s (d .combined) (s .defined)) (p i)) (q i)
 
--- ---- the two ways out behind the early answer, by what the calls promise
+-- ---- which answers refuse, by their tags
+
+module _ (s : State) (first count len at : ℕ) (r : Rooms) where
+  abbrev early-by : Bool → Bool → Bool → Bool → Answer
+  early-by b₁ b₂ b₃ b₄ = pick b₁ (pick b₂ (pick b₃ (pick b₄ Done (ShortArea (shortOf s r))) (ShortData (16 * count))) (BadLoad count first)) BadState
+
+  early-tagged : (b₁ b₂ b₃ b₄ : Bool) → OneOf undone (tagOf the-type (early-by b₁ b₂ b₃ b₄)) → number (early-by b₁ b₂ b₃ b₄) ≡ 0 → ⊥
+  unfolding pick
+  early-tagged false b₂ b₃ b₄ o e = let z : _≡_ {A = ℕ} 10 0 = e in omega arith
+  early-tagged true false b₃ b₄ o e = let z : _≡_ {A = ℕ} 1 0 = e in omega arith
+  early-tagged true true false b₄ o e = let z : _≡_ {A = ℕ} 7 0 = e in omega arith
+  early-tagged true true true false o e = let z : _≡_ {A = ℕ} 8 0 = e in omega arith
+  early-tagged true true true true o e = miss undone 0 tt o
+
+  early-done : (b₁ b₂ b₃ b₄ : Bool) → tagOf the-type (early-by b₁ b₂ b₃ b₄) ≡ 0 → number (early-by b₁ b₂ b₃ b₄) ≡ 0
+  unfolding pick
+  early-done false b₂ b₃ b₄ o = absurd (let z : _≡_ {A = ℕ} 11 0 = o in omega arith)
+  early-done true false b₃ b₄ o = absurd (let z : _≡_ {A = ℕ} 2 0 = o in omega arith)
+  early-done true true false b₄ o = absurd (let z : _≡_ {A = ℕ} 8 0 = o in omega arith)
+  early-done true true true false o = absurd (let z : _≡_ {A = ℕ} 9 0 = o in omega arith)
+  early-done true true true true o = refl
+
+  early-sound : (b₁ b₂ b₃ b₄ : Bool) → stateSound s ≡ b₁ → number (early-by b₁ b₂ b₃ b₄) ≡ 0 → stateSound s ≡ true
+  unfolding pick
+  early-sound false b₂ b₃ b₄ e o = absurd (let z : _≡_ {A = ℕ} 10 0 = o in omega arith)
+  early-sound true b₂ b₃ b₄ e o = e
+
+  -- where it does not refuse, the state's own numbers are in their ranges
+  pub sound-early : number (earlyAnswer s first count len at r) ≡ 0 → Ranges s
+  unfolding earlyAnswer
+  sound-early o = ranges s (early-sound _ _ _ _ refl o)
+
+  -- the early answer refuses unless it is Done
+  pub refuses-early : (a : Answer) → a ≡ earlyAnswer s first count len at r → OneOf undone (tagOf the-type a) → number a ≡ 0 → ⊥
+  unfolding earlyAnswer
+  refuses-early a q o e = early-tagged _ _ _ _ (subst (λ (x : Answer). OneOf undone (tagOf the-type x)) q o) (sym (ap number q) ∙ e)
+
+  pub passes-early : (a : Answer) → a ≡ earlyAnswer s first count len at r → tagOf the-type a ≡ 0 → number (earlyAnswer s first count len at r) ≡ 0
+  unfolding earlyAnswer
+  passes-early a q o = early-done _ _ _ _ (sym (ap (tagOf the-type) q) ∙ o)
+
+module _ (s : State) (d : Settled) (count : ℕ) (r : Rooms) where
+  late-tagged : (b : Bool) (n m : ℕ) → OneOf untold (tagOf the-type (pick b (Told n) (NoRoom m))) → number (pick b (Told n) (NoRoom m)) ≡ 0 → ⊥
+  unfolding pick
+  late-tagged false n m o e = let z : _≡_ {A = ℕ} 9 0 = e in omega arith
+  late-tagged true n m o e = miss untold 1 tt o
+
+  late-told : (b : Bool) (n m : ℕ) → tagOf the-type (pick b (Told n) (NoRoom m)) ≡ 1 → number (pick b (Told n) (NoRoom m)) ≡ 0
+  unfolding pick
+  late-told false n m o = absurd (let z : _≡_ {A = ℕ} 10 1 = o in omega arith)
+  late-told true n m o = refl
+
+  late-full : (b : Bool) (n m : ℕ) → eqb m 0 ≡ b → number (pick b (Told n) (NoRoom m)) ≡ 0 → m ≡ 0
+  unfolding pick
+  late-full false n m e o = absurd (let z : _≡_ {A = ℕ} 9 0 = o in omega arith)
+  late-full true n m e o = eqb-true _ _ e
+
+  -- where it does not refuse, no table is full, and the rows are not too many
+  pub rows-count : (a : Answer) → a ≡ lateAnswer d s count r → number a ≡ 0 → (f w : ℕ) → r .rows ≡ min (room floatWidth f) (room wordWidth w) → s .counts .rows + count ≤ most
+  unfolding lateAnswer
+  rows-count a q o f w e = fits-rows (s .counts) d s (moreBy d s count) r count f w refl e (late-full _ _ _ refl (sym (ap number q) ∙ o)) .0
+
+  -- the late answer refuses unless it is Told
+  pub refuses-late : (a : Answer) → a ≡ lateAnswer d s count r → OneOf untold (tagOf the-type a) → number a ≡ 0 → ⊥
+  unfolding lateAnswer
+  refuses-late a q o e = late-tagged _ _ _ (subst (λ (x : Answer). OneOf untold (tagOf the-type x)) q o) (sym (ap number q) ∙ e)
+
+  pub passes-late : (a : Answer) → a ≡ lateAnswer d s count r → tagOf the-type a ≡ 1 → number a ≡ 0
+  unfolding lateAnswer
+  passes-late a q o = ap number q ∙ late-told _ _ _ (sym (ap (tagOf the-type) q) ∙ o)
+
+-- ---- what is prepared of a load, by its answer
+module _ (s : State) (d : Settled) (first count len at : ℕ) (r : Rooms) (a b l o : List Float) (f : List ℤ) (a′ b′ l′ o′ : List Float) (f′ : List ℤ) (p : Prepared) where
+  abbrev Kept : Type 0
+  Kept = Refused s d first count len at r (p .answer) × (a′ ≡ a) × (b′ ≡ b) × (l′ ≡ l) × (o′ ≡ o) × (f′ ≡ f)
+
+  abbrev Made : Type 0
+  Made = Ready s d first count len at r a b l o f a′ b′ l′ o′ f′ p
+
+  pub is-ready : {n : ℕ} → Kept ⊎ Made → p .answer ≡ Told n → Made
+  is-ready h e = ⊎-elim (λ w. absurd (w .0 .refuses (ap number e))) (λ w. w) h
+
+  pub is-refused : Kept ⊎ Made → OneOf untold (tagOf the-type (p .answer)) → Kept
+  is-refused h o = ⊎-elim (λ w. w) (λ w. absurd (refuses-late s d count r (p .answer) (w .late) o (w .told))) h
+
+-- ---- the ways out of a load by what is prepared of it
 module _ (s : State) (l : LoadAreas) (first count at : ℕ) (bytes : List ℕ) (r : Rooms)
-    (is-rooms : r ≡ roomsOf (length (l .matrices)) (length (l .scales)) (length (l .lights)) (length (l .lookats)) (length (l .fogs)) (length (l .floats)) (length (l .words)))
-    (a₁ : Answer)
-    (is-early : a₁ ≡ earlyAnswer s first count (length bytes) at r)
-    (went-on : tagOf the-type a₁ ≡ 0)
-    (d : Settled)
-    (is-settled : d ≡ settled (familyOf (s .microcode)) s (entries matrixWidth (s .counts .matrices) (l .matrices)) (entries scaleWidth (s .counts .scales) (l .scales)) (entries fogWidth (s .counts .fogs) (l .fogs)))
-    (a₂ : Answer)
-    (is-late : a₂ ≡ lateAnswer d s count r) where
-  sized : Sized s l first count at bytes r d
-  sized =
-      let j = passed-early s l first count at bytes r is-rooms a₁ is-early went-on in
-      record { roomed = record { judged = j .0; is-rooms = is-rooms }; fits = j .1; is-settled = is-settled }
+    (is-rooms : r ≡ roomsOf (length (l .matrices)) (length (l .scales)) (length (l .lights)) (length (l .lookats)) (length (l .fogs)) (length (l .floats)) (length (l .words))) where
+  abbrev d : Settled
+  d = settledIn s (l .matrices) (l .scales) (l .fogs)
 
-  -- the load is refused late
-  pub refused-late : OneOf untold (tagOf the-type a₂) → outcome (record { state = s; answer = a₂ }) l ≡ carry areasLoad (load-plan s l first count at bytes) s l
-  refused-late o = way-late s l first count at bytes r d sized a₂ is-late o
+  sized : number (earlyAnswer s first count (length bytes) at r) ≡ 0 → Sized s l first count at bytes r d
+  sized h =
+      let j = passed-early s l first count at bytes r is-rooms h in
+      record { roomed = record { judged = j .0; is-rooms = is-rooms }; fits = j .1; is-settled = refl }
 
-  -- the load is done
-  module _ (told : tagOf the-type a₂ ≡ 1) (e : Shared) (m : List (List Float)) (c : Counts) (li : Lights) (lo : Lookat) (q : Slots) (x : LoadAreas)
-      (is-shared : e ≡ sharedBy d s)
-      (is-matrix : m ≡ rows (d .combined) 0)
-      (tables : TablesAre d s count (loadEdits d s []) c (l .matrices) (l .scales) (l .lights) (l .lookats) (l .fogs) (x .matrices) (x .scales) (x .lights) (x .lookats) (x .fogs))
-      (is-lights : li ≡ lightsThen d s)
-      (is-lookat : lo ≡ lookatThen d s)
-      (laid : Laid m e bytes at first (s .counts .rows) count (l .floats) (l .words) (s .coded) (s .code) (s .deep) (s .z) (x .floats) (x .words) (q .coded) (q .code) (q .deep) (q .z))
-      (marked : Marked first (s .counts .rows) count (s .row) (s .ever) (s .loaded) (s .drawn) (q .row) (q .ever) (q .loaded) (q .drawn)) where
+  -- it is refused
+  pub refused-load : (a : Answer) → Refused s d first count (length bytes) at r a → outcome (record { state = s; answer = a }) l ≡ carry areasLoad (load-plan s l first count at bytes) s l
+  refused-load a h =
+      ⊎-elim
+      (λ e. way-early s l first count at bytes r is-rooms a e (h .refuses))
+      (λ e. way-late s l first count at bytes r d (sized (e .0)) a (e .1) (h .refuses))
+      (h .by)
+
+  -- it is ready
+  module _ (p : Prepared) (x : LoadAreas)
+      (h : Ready s d first count (length bytes) at r (l .matrices) (l .scales) (l .lights) (l .lookats) (l .fogs) (x .matrices) (x .scales) (x .lights) (x .lookats) (x .fogs) p) where
+    passes : (fullOf s d count r ≡ 0) × (p .answer ≡ Told (pick (s .defined) 0 1))
+    passes = passed-late s l first count at bytes r d (sized (h .early)) (p .answer) (h .late) (h .told)
+
+    -- there is place for its rows
+    pub rows-fit : RowsFit (s .counts .rows) first count at bytes (l .floats) (l .words)
+    rows-fit = load-ready s l first count at bytes r d (sized (h .early)) (passes .0) .1
+
     -- the state before its rows and counts, as the code sets it
     abbrev settling : State
-    settling = withLookat (withLights (withCombined s (d .combined) (s .defined)) li) lo
+    settling = withLookat (withLights (withCombined s (p .combined) (s .defined)) (p .lights)) (p .lookat)
 
-    pub done : outcome (record { state = withSlots (withCounts settling c) q; answer = a₂ }) x ≡ carry areasLoad (load-plan s l first count at bytes) s l
-    done =
-        let f = passed-late s l first count at bytes r d sized a₂ is-late told in
-        way-done s l first count at bytes r d sized (f .0) _
-        (load-done s settling (withSlots settling q) d e m c (verticesAt bytes at count) first count a₂ l x (settled-then s d is-lights is-lookat) is-shared is-matrix tables
-        (loaded-by {s = settling} {l = q} laid marked) (f .1) (length-vertices bytes at count))
+    settles : settling ≡ settledState d s
+    settles = (λ i. withLookat (withLights (withCombined s (h .combined i) (s .defined)) (p .lights)) (p .lookat)) ∙ settled-then s d (h .lights) (h .lookat)
+
+    -- with its rows and slots it is done
+    pub done-load : (m : List (List Float)) (q : Slots)
+        → m ≡ rows (p .combined) 0
+        → Laid m (p .shared) bytes at first (s .counts .rows) count (l .floats) (l .words) (s .coded) (s .code) (s .deep) (s .z) (x .floats) (x .words) (q .coded) (q .code) (q .deep) (q .z)
+        → Marked first (s .counts .rows) count (s .row) (s .ever) (s .loaded) (s .drawn) (q .row) (q .ever) (q .loaded) (q .drawn)
+        → outcome (record { state = withSlots (withCounts settling (p .counts)) q; answer = p .answer }) x ≡ carry areasLoad (load-plan s l first count at bytes) s l
+    done-load m q is-matrix laid marked =
+        way-done s l first count at bytes r d (sized (h .early)) (passes .0) _
+        (load-done s settling (withSlots settling q) d (p .shared) m (p .counts) (verticesAt bytes at count) first count (p .answer) l x settles (h .shared)
+        (is-matrix ∙ ap (λ (c : List Float). rows c 0) (h .combined))
+        (h .tables) (loaded-by {s = settling} {l = q} laid marked) (passes .1) (length-vertices bytes at count))
 
 -- what a load leaves is known by the state, its columns, its answer and its areas, each by itself
 module _ (g g′ : State) (c c′ : Slots) (a a′ : Answer) (k k′ : LoadAreas) where

@@ -1,16 +1,18 @@
 -- What private steps of the commands say of themselves. None of it is cited by a command's contract or by a theorem: a reader of the promises need
 -- not read it. Definitions only.
 use Prim.Native.Nat.{ℕ, _+_, _*_, _%_, _≤_, min}
-use mathlib.Core.Bool.{Bool, true, false, _&&_}
+use mathlib.Core.Bool.{Bool, false, _&&_}
 use mathlib.Core.Path.{_≡_}
+use mathlib.Core.Logic.{_⊎_}
 use mathlib.Core.List.{List, [], _∷_, map}
 use lib.ListN.{length, getD}
 use lib.Dec.{leb, ltb, eqb}
 use lib.IntN.{ℤ}
 use lib.Ieee.{Float}
-use Rattle.areas.specs.Area.{room, write}
+use Rattle.areas.specs.Area.{room, entries, write}
 use Rattle.areas.specs.Widths.{most, matrixWidth, scaleWidth, lightWidth, lookatWidth, fogWidth, floatWidth, wordWidth}
 use Rattle.layout.specs.declared.records.Vertex.{Vertex}
+use Rattle.decide.specs.Family.{familyOf}
 use Rattle.decide.specs.Judge.{Lent}
 use Rattle.decide.specs.Steps.{firstShort}
 use Rattle.decide.specs.declared.append.Append.{Append}
@@ -32,6 +34,9 @@ use Rattle.stage.specs.declared.Answer.the-variants.{Done, Told, BadLoad
 use Rattle.stage.specs.declared.load.Settled.{Settled}
 use Rattle.stage.specs.declared.load.More.{More}
 use Rattle.stage.specs.declared.load.Rooms.{Rooms}
+use Rattle.stage.specs.declared.load.Prepared.{Prepared}
+use Rattle.stage.specs.Answers.{number}
+use Rattle.stage.specs.Load.{settled, sharedBy, loadEdits, lightsThen, lookatThen}
 use Rattle.stage.specs.Plan.{Table, Row, Edits, pick, counted, matrixArea, scaleArea, lightArea, lookatArea, fogArea, afterIn}
 use Rattle.stage.specs.Sound.{stateSound, limit}
 use Rattle.stage.specs.declared.draw.Corners.{Corners}
@@ -134,6 +139,34 @@ unfoldable pub lateAnswer : Settled → State → ℕ → Rooms → Answer
 lateAnswer d s count r =
     let full = firstShort (sixLent (s .counts) (moreBy d s count) r) in
     pick (eqb full 0) (Told (pick (s .defined) 0 1)) (NoRoom full)
+
+-- what a load settles, by the state and what is in use of tables 1, 3 and 6
+abbrev pub settledIn : State → List Float → List Float → List ℤ → Settled
+settledIn s a b f =
+    settled (familyOf (s .microcode)) s (entries matrixWidth (s .counts .matrices) a) (entries scaleWidth (s .counts .scales) b) (entries fogWidth (s .counts .fogs) f)
+
+-- a load that is refused, early or late
+pub record Refused (s : State) (d : Settled) (first count len at : ℕ) (r : Rooms) (a : Answer) : Type 0 where
+  pub refuses : number a ≡ 0 → ⊥
+  pub by : (a ≡ earlyAnswer s first count len at r) ⊎ ((number (earlyAnswer s first count len at r) ≡ 0) × (a ≡ lateAnswer d s count r))
+
+-- a load that is ready for its rows: nothing refuses it, the tables before its rows are settled, and the parts of the state that it sets are made
+pub record Ready (s : State) (d : Settled) (first count len at : ℕ) (r : Rooms) (a b l o : List Float) (f : List ℤ) (a′ b′ l′ o′ : List Float) (f′ : List ℤ) (p : Prepared) : Type 0 where
+  pub early : number (earlyAnswer s first count len at r) ≡ 0
+  pub late : p .answer ≡ lateAnswer d s count r
+  pub told : number (p .answer) ≡ 0
+  pub shared : p .shared ≡ sharedBy d s
+  pub tables : TablesAre d s count (loadEdits d s []) (p .counts) a b l o f a′ b′ l′ o′ f′
+  pub combined : p .combined ≡ d .combined
+  pub lights : p .lights ≡ lightsThen d s
+  pub lookat : p .lookat ≡ lookatThen d s
+
+-- what is prepared of a load, x and w the lengths of the rows' areas: it is refused, and the areas are as they were, or it is ready
+abbrev pub Prepares : State → ℕ → ℕ → ℕ → ℕ → ℕ → ℕ → List Float → List Float → List Float → List Float → List ℤ → List Float → List Float → List Float → List Float → List ℤ → Prepared → Type 0
+Prepares s first count len at x w a b l o f a′ b′ l′ o′ f′ p =
+    let d = settledIn s a b f in
+    let r = roomsOf (length a) (length b) (length l) (length o) (length f) x w in
+    (Refused s d first count len at r (p .answer) × (a′ ≡ a) × (b′ ≡ b) × (l′ ≡ l) × (o′ ≡ o) × (f′ ≡ f)) ⊎ Ready s d first count len at r a b l o f a′ b′ l′ o′ f′ p
 
 -- what the state s and the areas f and w have become, once the vertices vs have their rows behind those in use and their slots from first on
 pub record RowsLaid (s : State) (m : List (List Float)) (e : Shared) (first : ℕ) (vs : List Vertex) (f : List Float) (w : List ℕ) (s′ : State) (f′ : List Float) (w′ : List ℕ) : Type 0 where

@@ -11,7 +11,7 @@ ghost use Rattle.decide.specs.Steps.{firstShort};
 ghost use Rattle.stage.specs.Plan.{outcome, pick};
 ghost use Rattle.stage.specs.With.{foldedLights, foldedLookat};
 ghost use Rattle.stage.specs.Load.{settled, sharedBy, loadEdits, loadAreas, loadMeans};
-ghost use Rattle.stage.specs.Steps.{Ranged, TablesAre, roomsOf, sixLent, moreBy, noMore, earlyAnswer, lateAnswer};
+ghost use Rattle.stage.specs.Steps.{Ranged, TablesAre, roomsOf, sixLent, moreBy, noMore, earlyAnswer, lateAnswer, Prepares};
 use crate::Answer;
 use crate::Answered;
 use crate::Counts;
@@ -64,6 +64,17 @@ pub struct Rooms {
     pub lookats: usize,
     pub fogs: usize,
     pub rows: usize,
+}
+
+// What a load has ready before its rows: its answer, and where that tells of the matrix what the rows share, the counts, and the parts of the
+// state that it sets.
+pub struct Prepared {
+    pub answer: Answer,
+    pub shared: Shared,
+    pub counts: Counts,
+    pub combined: [f32; 16],
+    pub lights: Lights,
+    pub lookat: Lookat,
 }
 
 fn lesser(a: usize, b: usize) -> usize
@@ -375,6 +386,88 @@ impl State {
         Answer::Told(decide::number::if_else(self.defined, 0, 1))
     }
 
+    // Nothing prepared, but an answer.
+    fn unprepared(self, answer: Answer) -> Prepared
+        ensures { λ r. ⌜ r .answer ≡ answer ⌝ }
+    {
+        let combined = self.combined;
+        let l = self.lights;
+        let o = self.lookat;
+        let c = self.counts;
+        Prepared {
+            answer: answer,
+            shared: Shared {
+                matrix: 0,
+                viewport: 0,
+                scale: 0,
+                light: 0,
+                lights: 0,
+                texgen: 0,
+                fog: 0,
+                lookat: 0,
+                zscale: 0.0,
+                ztranslation: 0.0,
+            },
+            counts: c,
+            combined: combined,
+            lights: l,
+            lookat: o,
+        }
+    }
+
+    // All that a load does before its rows: what it answers, and where it is done the tables written. `len`, `floats` and `words` are the lengths of its data and of the
+    // areas that it does not write yet.
+    fn settle(
+        self,
+        first: u32,
+        count: u32,
+        len: usize,
+        at: usize,
+        floats: usize,
+        words: usize,
+        matrices: &mut [f32],
+        scales: &mut [f32],
+        lights: &mut [f32],
+        lookats: &mut [f32],
+        fogs: &mut [i16],
+    ) -> Prepared
+        ensures { λ r. ⌜ Prepares self first count len at floats words (now (matrices .entry)) (now (scales .entry)) (now (lights .entry)) (now (lookats .entry)) (now (fogs .entry)) (now (matrices .exit)) (now (scales .exit)) (now (lights .exit)) (now (lookats .exit)) (now (fogs .exit)) r ⌝ }
+    {
+        let rooms = rooms_of(
+            matrices.len(),
+            scales.len(),
+            lights.len(),
+            lookats.len(),
+            fogs.len(),
+            floats,
+            words,
+        );
+        let answer = self.early(first, count, len, at, rooms);
+        let Answer::Done = answer else {
+            return self.unprepared(answer);
+        };
+        let stack = self.stack;
+        let d = self.settled_by(&stack, matrices, scales, fogs);
+        let late = self.late(d, count, rooms);
+        let Answer::Told(notice) = late else {
+            return self.unprepared(late);
+        };
+        let shared = self.shared_by(d);
+        let counts = self.tables_written(d, count, matrices, scales, lights, lookats, fogs);
+        let combined = d.combined;
+        let model = d.model;
+        let l = lights_then(self.lights, d.newlights, model, self.counts.lights);
+        let o = lookat_then(self.lookat, d.newlookat, model, self.counts.lookats);
+        Prepared {
+            answer: late,
+            shared: shared,
+            counts: counts,
+            combined: combined,
+            lights: l,
+            lookat: o,
+        }
+    }
+
     // Load: `count` vertices of 16 bytes into the slots from `first` on. Nothing is written before all is judged.
     pub fn load(
         mut self,
@@ -392,15 +485,6 @@ impl State {
     ) -> Answered
         ensures { λ r. ⌜ outcome r (loadAreas (now (matrices .exit)) (now (scales .exit)) (now (lights .exit)) (now (lookats .exit)) (now (fogs .exit)) (now (floats .exit)) (now (words .exit))) ≡ loadMeans self first count (now («data» .entry)) at (loadAreas (now (matrices .entry)) (now (scales .entry)) (now (lights .entry)) (now (lookats .entry)) (now (fogs .entry)) (now (floats .entry)) (now (words .entry))) ⌝ }
     {
-        let rooms = rooms_of(
-            matrices.len(),
-            scales.len(),
-            lights.len(),
-            lookats.len(),
-            fogs.len(),
-            floats.len(),
-            words.len(),
-        );
         let mut row = self.row;
         let mut ever = self.ever;
         let mut loaded = self.loaded;
@@ -409,43 +493,52 @@ impl State {
         let mut code = self.code;
         let mut deep = self.deep;
         let mut z = self.z;
-        let mut answer = self.early(first, count, data.len(), at, rooms);
-        if let Answer::Done = answer {
-            let stack = self.stack;
-            let d = self.settled_by(&stack, matrices, scales, fogs);
-            answer = self.late(d, count, rooms);
-            if let Answer::Told(notice) = answer {
-                let e = self.shared_by(d);
-                let n = self.counts.rows as usize;
-                let counts = self.tables_written(d, count, matrices, scales, lights, lookats, fogs);
-                let combined = d.combined;
-                let model = d.model;
-                let m = matrix::math::from_flat(combined);
-                let l = lights_then(self.lights, d.newlights, model, self.counts.lights);
-                let o = lookat_then(self.lookat, d.newlookat, model, self.counts.lookats);
-                let k = first as usize;
-                let c = count as usize;
-                vertex::lay_all(
-                    floats,
-                    words,
-                    &mut coded,
-                    &mut code,
-                    &mut deep,
-                    &mut z,
-                    k,
-                    n,
-                    c,
-                    m,
-                    e,
-                    data,
-                    at,
-                );
-                vertex::mark_all(&mut row, &mut ever, &mut loaded, &mut drawn, k, n, c);
-                self.combined = combined;
-                self.lights = l;
-                self.lookat = o;
-                self.counts = counts;
-            }
+        let p = self.settle(
+            first,
+            count,
+            data.len(),
+            at,
+            floats.len(),
+            words.len(),
+            matrices,
+            scales,
+            lights,
+            lookats,
+            fogs,
+        );
+        let answer = p.answer;
+        if let Answer::Told(notice) = answer {
+            let combined = p.combined;
+            let m = matrix::math::from_flat(combined);
+            let n = self.counts.rows as usize;
+            let k = first as usize;
+            let c = count as usize;
+            vertex::fill(
+                floats,
+                words,
+                &mut row,
+                &mut ever,
+                &mut loaded,
+                &mut drawn,
+                &mut coded,
+                &mut code,
+                &mut deep,
+                &mut z,
+                k,
+                n,
+                c,
+                m,
+                p.shared,
+                data,
+                at,
+            );
+            let l = p.lights;
+            let o = p.lookat;
+            let counts = p.counts;
+            self.combined = combined;
+            self.lights = l;
+            self.lookat = o;
+            self.counts = counts;
         }
         self.row = row;
         self.ever = ever;

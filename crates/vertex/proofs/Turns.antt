@@ -1,25 +1,23 @@
 -- The loops of a load, a turn at a time: what one more vertex does to a column and to the two areas of table 7, and what it needs. Assumes nothing.
-use Prim.Native.Nat.{ℕ, zero, suc, _+_, _*_, _≤_, _<_}
-use native.Mathlib.Nat.{add-zero, mul-le-mul}
+use Prim.Native.Nat.{ℕ, _+_, _*_, _≤_, _<_}
+use native.Mathlib.Nat.{mul-le-mul}
 use native.Mathlib.Numerals.{add-one}
 use native.Mathlib.Omega.{arith}
-use mir.Syntax.{w32, w64}
+use mir.Syntax.{w64}
 use mir.Val.{Fits}
-use mathlib.Core.Bool.{Bool, true, false}
-use mathlib.Core.Path.{_≡_, refl, sym, ap, _∙_}
+use mathlib.Core.Bool.{Bool}
+use mathlib.Core.Path.{_≡_, refl, sym, _∙_}
 use mathlib.Core.List.{List, [], _∷_, _++_, map, map-append}
-use lib.ListN.{length, set, length-set, length-map}
+use lib.ListN.{length, set, length-map}
 use lib.Ieee.{Float}
 use Rattle.areas.specs.Area.{put, write}
-use Rattle.areas.specs.Widths.{floatWidth, wordWidth}
-use Rattle.areas.proofs.Tables.{length-write, write-one, write-nil, write-snoc}
+use Rattle.areas.proofs.Tables.{write-one, write-nil, write-snoc}
 use Rattle.layout.specs.Layout.{vertexAt}
 use Rattle.layout.specs.declared.records.Vertex.{Vertex}
 use Rattle.vertex.specs.declared.Shared.{Shared}
-use Rattle.vertex.specs.declared.Slot.{Slot}
-use Rattle.vertex.specs.Vertices.{floatsOf, wordsOf, slotOf, verticesAt}
-use Rattle.vertex.specs.Steps.{filled, slotAtTurn, RowsFit, Laid, Marked}
-use Rattle.vertex.proofs.Believe.{floats-size, words-size, wide-map, length-vertices, vertices-snoc}
+use Rattle.vertex.specs.Vertices.{verticesAt}
+use Rattle.vertex.specs.Steps.{filled, RowsFit, Laid, Marked}
+use Rattle.vertex.proofs.Believe.{wide-map, length-vertices, vertices-snoc}
 
 -- ---- a column
 
@@ -48,7 +46,7 @@ pub rowed : {A : Type 0} (f : Vertex → List A) (w n : ℕ) → ((v : Vertex) �
 rowed f w n h b at i l e g =
     g ∙ rw (e, vertices-snoc b at i, ← rows-snoc f w n h (verticesAt b at i) (vertexAt b (at + 16 * i)) l, length-vertices b at i)
 
--- ---- what vertex i of count needs: its row, its bytes and its slot are there, and every number on the way fits
+-- ---- what vertex i of count needs: its slot is there, and the numbers on the way fit
 
 module _ {n first count at : ℕ} {b : List ℕ} {f : List Float} {w : List ℕ} (h : RowsFit n first count at b f w) {i : ℕ} (below : i < count) where
   pub slot-there : first + i < 256
@@ -56,12 +54,6 @@ module _ {n first count at : ℕ} {b : List ℕ} {f : List Float} {w : List ℕ}
 
   pub row-fits : Fits w64 (n + i)
   row-fits = record { fits = omega (arith, h .rows) }
-
-  pub bytes-fit : Fits w64 (16 * i)
-  bytes-fit = record { fits = omega (arith, h .slots) }
-
-  pub place-fits : length b ≤ 18446744073709551615 → Fits w64 (at + 16 * i)
-  place-fits g = record { fits = omega (arith, h .bytes, g) }
 
   pub slot-fits : Fits w64 (first + i)
   slot-fits = record { fits = omega (arith, h .slots) }
@@ -74,10 +66,6 @@ module _ {n first count at : ℕ} {b : List ℕ} {f : List Float} {w : List ℕ}
 
   pub next-fits : Fits w64 (i + 1)
   next-fits = record { fits = omega (arith, h .slots) }
-
-  -- the row's room in areas as long as f and w, and the bytes
-  pub vertex-there : {x y : ℕ} → x ≡ length f → y ≡ length w → ((n + i + 1) * floatWidth ≤ x) × ((n + i + 1) * wordWidth ≤ y) × (at + 16 * i + 16 ≤ length b)
-  vertex-there p q = (omega (arith, h .floats, p), omega (arith, h .words, q), omega (arith, h .bytes))
 
 -- ---- before the first vertex all is as it was
 

@@ -4,7 +4,7 @@ ghost use mathlib.Core.Path.{_≡_};
 ghost use Prim.Native.Nat.{_+_, _*_, _≤_};
 ghost use lib.ListN.{length};
 ghost use Rattle.areas.specs.Area.{put};
-ghost use Rattle.areas.specs.Widths.{most, floatWidth, wordWidth};
+ghost use Rattle.areas.specs.Widths.{floatWidth, wordWidth};
 ghost use Rattle.layout.specs.Layout.{vertexAt};
 ghost use Rattle.vertex.specs.Vertices.{floatsOf, wordsOf, slotOf};
 ghost use Rattle.vertex.specs.Steps.{RowsFit, Laid, Marked};
@@ -117,11 +117,15 @@ pub fn lay(
     slot_of(m, e, v)
 }
 
-// The rows of a load, `count` from row `n` on, and what the slots from `first` on get of their vertices. Asks for what is judged
-// once for all rows of a load, as `lay` does.
-pub fn lay_all(
+// The rows of a load, `count` of them from row `n` on, and all that the slots from `first` on get. Asks for what is judged once for
+// all rows of a load, as `lay` does. One loop: two would be slower where a load is short.
+pub fn fill(
     floats: &mut [f32],
     words: &mut [u32],
+    row: &mut [u32; 256],
+    ever: &mut [bool; 256],
+    loaded: &mut [bool; 256],
+    drawn: &mut [bool; 256],
     coded: &mut [bool; 256],
     code: &mut [u8; 256],
     deep: &mut [bool; 256],
@@ -135,37 +139,18 @@ pub fn lay_all(
     at: usize,
 )
     requires { ⌜ RowsFit n first count at (now «data») (now floats) (now words) ⌝ }
-    ensures { λ _. ⌜ Laid m e (now («data» .entry)) at first n count (now (floats .entry)) (now (words .entry)) (now (coded .entry)) (now (code .entry)) (now (deep .entry)) (now (z .entry)) (now (floats .exit)) (now (words .exit)) (now (coded .exit)) (now (code .exit)) (now (deep .exit)) (now (z .exit)) ⌝ }
+    ensures { λ _. ⌜ Laid m e (now («data» .entry)) at first n count (now (floats .entry)) (now (words .entry)) (now (coded .entry)) (now (code .entry)) (now (deep .entry)) (now (z .entry)) (now (floats .exit)) (now (words .exit)) (now (coded .exit)) (now (code .exit)) (now (deep .exit)) (now (z .exit)) × Marked first n count (now (row .entry)) (now (ever .entry)) (now (loaded .entry)) (now (drawn .entry)) (now (row .exit)) (now (ever .exit)) (now (loaded .exit)) (now (drawn .exit)) ⌝ }
 {
     for i in 0..count {
         let s = lay(floats, words, n + i, m, e, data, at + 16 * i);
-        let k = first + i;
-        coded[k] = s.coded;
-        code[k] = s.code;
-        deep[k] = s.deep;
-        z[k] = s.z;
-    }
-}
-
-// The slots of a load, `count` from `first` on: their rows, from row `n` on, and their marks. Asks for slots that are there, and
-// for row numbers that a table has.
-pub fn mark_all(
-    row: &mut [u32; 256],
-    ever: &mut [bool; 256],
-    loaded: &mut [bool; 256],
-    drawn: &mut [bool; 256],
-    first: usize,
-    n: usize,
-    count: usize,
-)
-    requires { ⌜ (first + count ≤ 256) × (n + count ≤ most) ⌝ }
-    ensures { λ _. ⌜ Marked first n count (now (row .entry)) (now (ever .entry)) (now (loaded .entry)) (now (drawn .entry)) (now (row .exit)) (now (ever .exit)) (now (loaded .exit)) (now (drawn .exit)) ⌝ }
-{
-    for i in 0..count {
         let k = first + i;
         row[k] = (n + i) as u32;
         ever[k] = true;
         loaded[k] = true;
         drawn[k] = false;
+        coded[k] = s.coded;
+        code[k] = s.code;
+        deep[k] = s.deep;
+        z[k] = s.z;
     }
 }

@@ -1,7 +1,8 @@
--- `vertex::lay_all` meets its contract. After i turns the first i vertices have their rows, and their slots what they get. The measure is what is
--- left of them. Assumes nothing.
-use Prim.Native.Nat.{ℕ, _-_, _≤_}
+-- `vertex::fill` meets its contract. After i turns the first i vertices have their rows, and their slots all that they get. The measure is what is left
+-- of them. Assumes nothing.
+use Prim.Native.Nat.{ℕ, _+_, _-_, _≤_}
 use native.Mathlib.Omega.{arith}
+use mathlib.Core.Bool.{true, false}
 use mathlib.Core.Path.{_≡_, refl, ap, subst}
 use denote.Ref.{now}
 use lib.ListN.{length}
@@ -9,20 +10,20 @@ use Rattle.areas.specs.Widths.{floatWidth, wordWidth}
 use Rattle.areas.proofs.Tables.{length-write}
 use Rattle.vertex.specs.declared.Slot.{Slot}
 use Rattle.vertex.specs.Vertices.{floatsOf, wordsOf}
-use Rattle.vertex.specs.Steps.{slotAtTurn, Laid}
+use Rattle.vertex.specs.Steps.{slotAtTurn, Laid, Marked}
 use Rattle.vertex.proofs.Believe.{floats-size, words-size}
-use Rattle.vertex.proofs.Turns.{turned, rowed, slot-there, row-fits, bytes-fit, place-fits, slot-fits, byte-fits, next-fits, vertex-there, laid-none}
+use Rattle.vertex.proofs.Turns.{turned, rowed, slot-there, row-fits, slot-fits, byte-fits, next-fits, laid-none, marked-none}
 use borrow.Author.Needs.{needs}
-use Rattle.vertex.proofs.lay_all.Statement.{statement}
-use Rattle.vertex.proofs.lay_all.Tie as tie
+use Rattle.vertex.proofs.fill.Statement.{statement}
+use Rattle.vertex.proofs.fill.Tie as tie
 
--- the first i vertices have their rows and slots, in areas as long as they were
+-- the first i vertices have their rows and their slots all that they get, in areas as long as they were
 abbrev Inv-loop : tie.InvT-loop
-Inv-loop floats₀ words₀ coded₀ code₀ deep₀ z₀ first n count m e «data» at i₀ floats words coded code deep z i =
-    (i ≤ count) × Laid m e «data» at first n i floats₀ words₀ coded₀ code₀ deep₀ z₀ floats words coded code deep z × (length floats ≡ length floats₀) × (length words ≡ length words₀)
+Inv-loop floats₀ words₀ row₀ ever₀ loaded₀ drawn₀ coded₀ code₀ deep₀ z₀ first n count m e «data» at i₀ floats words row ever loaded drawn coded code deep z i =
+    (i ≤ count) × Laid m e «data» at first n i floats₀ words₀ coded₀ code₀ deep₀ z₀ floats words coded code deep z × Marked first n i row₀ ever₀ loaded₀ drawn₀ row ever loaded drawn × (length floats ≡ length floats₀) × (length words ≡ length words₀)
 
 abbrev μ-loop : tie.MeasureT-loop
-μ-loop floats₀ words₀ coded₀ code₀ deep₀ z₀ first n count m e «data» at i₀ floats words coded code deep z i = count - i
+μ-loop floats₀ words₀ row₀ ever₀ loaded₀ drawn₀ coded₀ code₀ deep₀ z₀ first n count m e «data» at i₀ floats words row ever loaded drawn coded code deep z i = count - i
 
 -- ---- places passed on the way to a later one
 
@@ -38,22 +39,47 @@ given c = c .before .before .before .before
 -- ---- the needs
 
 loop-holds : tie.Need-loop-holds Inv-loop μ-loop
-loop-holds c = (omega arith, laid-none _ _ _ _ _ _ _ _ _ _ _ _, refl, refl)
+loop-holds c = (omega arith, laid-none _ _ _ _ _ _ _ _ _ _ _ _, marked-none _ _ _ _ _ _, refl, refl)
 
 add-lay : tie.Need-add-lay Inv-loop μ-loop
 add-lay c = row-fits (begun (turning c .before .before) .pre) (turning c .loop-test .taken)
 
 mul-lay : tie.Need-mul-lay Inv-loop μ-loop
-mul-lay c = bytes-fit (begun (turning c .before .before) .pre) (turning c .loop-test .taken)
+mul-lay c = omega (arith, begun (turning c .before .before) .pre .slots, turning c .loop-test .taken)
 
 add-lay-2 : tie.Need-add-lay-2 Inv-loop μ-loop
-add-lay-2 c = place-fits (begun (turning c .before .before) .pre) (turning c .loop-test .taken) (omega arith)
+add-lay-2 c = omega (arith, begun (turning c .before .before) .pre .bytes, turning c .loop-test .taken)
 
 lay-requires : tie.Need-lay-requires Inv-loop μ-loop
-lay-requires c κs = let h = turning c .before .loop .inv in vertex-there (begun (turning c .before .before) .pre) (turning c .loop-test .taken) (h .2) (h .3)
+lay-requires c κs =
+    let g = begun (turning c .before .before) .pre in
+    let h = turning c .before .loop .inv in
+    let t = turning c .loop-test .taken in
+    (omega (arith, g .floats, h .3, t), omega (arith, g .words, h .4, t), omega (arith, g .bytes, t))
 
 add-k : tie.Need-add-k Inv-loop μ-loop
 add-k c = let t = turning (given c .before) in slot-fits (begun (t .before .before) .pre) (t .loop-test .taken)
+
+add-row : tie.Need-add-row Inv-loop μ-loop
+add-row c = let t = turning (given c .before) in row-fits (begun (t .before .before) .pre) (t .loop-test .taken)
+
+cast-row : tie.Need-cast-row Inv-loop μ-loop
+cast-row c = let t = turning (given c .before) in omega (arith, begun (t .before .before) .pre .rows, t .loop-test .taken)
+
+mul-row : tie.Need-mul-row Inv-loop μ-loop
+mul-row c = let t = turning (given c .before) in byte-fits (begun (t .before .before) .pre) (t .loop-test .taken) 4 (omega arith)
+
+element-write-row : tie.Need-element-write-row Inv-loop μ-loop
+element-write-row c = let t = turning (given c .before) in slot-there (begun (t .before .before) .pre) (t .loop-test .taken)
+
+element-write-ever : tie.Need-element-write-ever Inv-loop μ-loop
+element-write-ever c = let t = turning (given c .before) in slot-there (begun (t .before .before) .pre) (t .loop-test .taken)
+
+element-write-loaded : tie.Need-element-write-loaded Inv-loop μ-loop
+element-write-loaded c = let t = turning (given c .before) in slot-there (begun (t .before .before) .pre) (t .loop-test .taken)
+
+element-write-drawn : tie.Need-element-write-drawn Inv-loop μ-loop
+element-write-drawn c = let t = turning (given c .before) in slot-there (begun (t .before .before) .pre) (t .loop-test .taken)
 
 element-write-coded : tie.Need-element-write-coded Inv-loop μ-loop
 element-write-coded c = let t = turning (given c .before) in slot-there (begun (t .before .before) .pre) (t .loop-test .taken)
@@ -83,6 +109,7 @@ loop-again c =
     let l = t .before .loop in
     let a = begun (t .before .before) .args in
     let h = l .inv .1 in
+    let u = l .inv .2 in
     let y = g .lay .ensures in
     let v = slotAtTurn (a .m) (a .e) (now (a .«data»)) (a .at) in
     let d = rowed floatsOf floatWidth (a .n) floats-size (now (a .«data»)) (a .at) (l .i) (now (a .floats)) (h .floats) (y .0) in
@@ -96,25 +123,31 @@ loop-again c =
         deeps = turned (λ (i : ℕ). v i .deep) (now (a .deep)) (a .first) (l .i) (h .deeps) (ap (λ (s : Slot). s .deep) (y .2)) refl;
         zs = turned (λ (i : ℕ). v i .z) (now (a .z)) (a .first) (l .i) (h .zs) (ap (λ (s : Slot). s .z) (y .2)) refl;
       },
+      record {
+        rows = turned (λ (i : ℕ). a .n + i) (now (a .row)) (a .first) (l .i) (u .rows) refl refl;
+        evers = turned (λ (i : ℕ). true) (now (a .ever)) (a .first) (l .i) (u .evers) refl refl;
+        loadeds = turned (λ (i : ℕ). true) (now (a .loaded)) (a .first) (l .i) (u .loadeds) refl refl;
+        drawns = turned (λ (i : ℕ). false) (now (a .drawn)) (a .first) (l .i) (u .drawns) refl refl;
+      },
       rw (d, length-write),
       rw (w, length-write),
     )
 
 same-length : tie.Need-same-length Inv-loop μ-loop
-same-length c = c .before .loop .inv .2
+same-length c = c .before .loop .inv .3
 
 same-length-2 : tie.Need-same-length-2 Inv-loop μ-loop
-same-length-2 c = c .before .loop .inv .3
+same-length-2 c = c .before .loop .inv .4
 
 returns : tie.Need-returns Inv-loop μ-loop
 returns c =
     let a = begun (c .before .before) .args in
     let l = c .before .loop in
     let e : l .i ≡ a .count = omega (arith, c .loop-test .left, l .inv .0) in
-    subst (λ (i : ℕ). Laid (a .m) (a .e) (now (a .«data»)) (a .at) (a .first) (a .n) i (now (a .floats)) (now (a .words)) (now (a .coded)) (now (a .code)) (now (a .deep)) (now (a .z)) (l .floats) (l .words) (l .coded) (l .code) (l .deep) (l .z)) e (l .inv .1)
+    subst (λ (i : ℕ). Laid (a .m) (a .e) (now (a .«data»)) (a .at) (a .first) (a .n) i (now (a .floats)) (now (a .words)) (now (a .coded)) (now (a .code)) (now (a .deep)) (now (a .z)) (l .floats) (l .words) (l .coded) (l .code) (l .deep) (l .z) × Marked (a .first) (a .n) i (now (a .row)) (now (a .ever)) (now (a .loaded)) (now (a .drawn)) (l .row) (l .ever) (l .loaded) (l .drawn)) e (l .inv .1, l .inv .2)
 
-pub lay-all-spec : {M : Type 1} → statement M
-lay-all-spec =
+pub fill-spec : {M : Type 1} → statement M
+fill-spec =
     tie.close
     (tie.spec
     Inv-loop
@@ -125,6 +158,13 @@ lay-all-spec =
     add-lay-2
     lay-requires
     add-k
+    add-row
+    cast-row
+    mul-row
+    element-write-row
+    element-write-ever
+    element-write-loaded
+    element-write-drawn
     element-write-coded
     element-write-code
     element-write-deep
