@@ -1,3 +1,5 @@
+use mathlib.Core.Path.{_∙_, ap₂}
+use Prim.Native.Nat.{min}
 use Rattle.stage.specs.Steps.{roomsOf}
 use borrow.Author.Needs.{needs}
 use Rattle.stage.proofs.load.rooms_of.Statement.{statement}
@@ -29,7 +31,14 @@ lesser-requires c κs = search needs
 
 returns : tie.Need-returns
 unfolding roomsOf
-returns c = cc
+returns c = λ i. record {
+  matrices = c .before .before .before .before .before .before .before .room-of .ensures i;
+  scales = c .before .before .before .before .before .before .room-of2 .ensures i;
+  lights = c .before .before .before .before .before .room-of3 .ensures i;
+  lookats = c .before .before .before .before .room-of4 .ensures i;
+  fogs = c .before .before .before .room-of5 .ensures i;
+  rows = (c .lesser .ensures ∙ ap₂ min (c .before .before .room-of6 .ensures) (c .before .room-of7 .ensures)) i;
+}
 
 pub rooms-of-spec : {M : Type 1} → statement M
 rooms-of-spec =
