@@ -13,7 +13,7 @@ use Rattle.stage.proofs.State.branch_z.Statement.{statement}
 use Rattle.stage.proofs.State.branch_z.Tie as tie
 
 sound-requires : tie.Need-sound-requires
-sound-requires c κs = search needs
+sound-requires c κs = tt
 
 returns : tie.Need-returns
 unfolding depthPlan
@@ -48,7 +48,7 @@ returns-3 c =
     (refused nothing _ _ _ _ (NoCode (a .slot)) (fails (held-reads 256 (a .self .loaded) (a .slot) (a .self .deep) false h) (c .if3 .taken))))
 
 wide-by-65536-requires : tie.Need-wide-by-65536-requires
-wide-by-65536-requires c κs = search needs
+wide-by-65536-requires c κs = tt
 
 mul-word-of : tie.Need-mul-word-of
 mul-word-of c = search needs
@@ -57,7 +57,7 @@ array-read-word-of : tie.Need-array-read-word-of
 array-read-word-of c = search needs
 
 word-of-requires : tie.Need-word-of-requires
-word-of-requires c κs = search needs
+word-of-requires c κs = tt
 
 returns-4 : tie.Need-returns-4
 unfolding depthPlan

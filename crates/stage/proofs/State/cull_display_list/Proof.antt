@@ -17,7 +17,7 @@ abbrev μ-loop : tie.MeasureT-loop
 μ-loop self first last loaded coded code common₀ i₀ common i = last + 1 - i
 
 sound-requires : tie.Need-sound-requires Inv-loop μ-loop
-sound-requires c κs = search needs
+sound-requires c κs = tt
 
 returns : tie.Need-returns Inv-loop μ-loop
 unfolding cullPlan
@@ -47,7 +47,7 @@ array-read-uncoded : tie.Need-array-read-uncoded Inv-loop μ-loop
 array-read-uncoded c = omega arith
 
 uncoded-requires : tie.Need-uncoded-requires Inv-loop μ-loop
-uncoded-requires c κs = search needs
+uncoded-requires c κs = tt
 
 returns-3 : tie.Need-returns-3 Inv-loop μ-loop
 unfolding cullPlan rest
@@ -71,7 +71,7 @@ loop-again : tie.Need-loop-again Inv-loop μ-loop
 loop-again c = walk-more _ _ _ _ _ (c .before .before .loop .inv) (c .before .loop-test .taken) (not-false _ (c .if3 .left))
 
 word-of-requires : tie.Need-word-of-requires Inv-loop μ-loop
-word-of-requires c κs = search needs
+word-of-requires c κs = tt
 
 returns-4 : tie.Need-returns-4 Inv-loop μ-loop
 unfolding cullPlan rest

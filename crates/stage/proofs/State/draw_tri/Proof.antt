@@ -61,28 +61,28 @@ accepted e =
     has-room (familyOf (s .args .self .microcode)) 256 _ _ _ _ _ _ (asked s) refl _ _ _ _ (found (e .before .before)) (e .v .given .1)
 
 family-of-requires : tie.Need-family-of-requires
-family-of-requires c κs = search needs
+family-of-requires c κs = tt
 
 corners-at-requires : tie.Need-corners-at-requires
-corners-at-requires c κs = search needs
+corners-at-requires c κs = tt
 
 tables-of-requires : tie.Need-tables-of-requires
-tables-of-requires c κs = search needs
+tables-of-requires c κs = tt
 
 sides-of-requires : tie.Need-sides-of-requires
-sides-of-requires c κs = search needs
+sides-of-requires c κs = tt
 
 settings-of-requires : tie.Need-settings-of-requires
-settings-of-requires c κs = search needs
+settings-of-requires c κs = tt
 
 last-run-requires : tie.Need-last-run-requires
-last-run-requires c κs = search needs
+last-run-requires c κs = tt
 
 sound-requires : tie.Need-sound-requires
-sound-requires c κs = search needs
+sound-requires c κs = tt
 
 judge-requires : tie.Need-judge-requires
-judge-requires c κs = search needs
+judge-requires c κs = tt
 
 enum-known-v : tie.Need-enum-known-v
 enum-known-v c = search needs
@@ -118,7 +118,7 @@ sub-place : tie.Need-sub-place
 sub-place c = accepted (c .before .before .before .before .before .before) .run-some
 
 place-requires : tie.Need-place-requires
-place-requires c κs = search needs
+place-requires c κs = tt
 
 put-run-requires : tie.Need-put-run-requires
 put-run-requires c κs = rw (c .place .ensures) (accepted (c .before .before .before .before .before .before .before) .run-end)
@@ -130,7 +130,7 @@ add-recorded : tie.Need-add-recorded
 add-recorded c = omega (arith, accepted (c .before .before .before .before .before .before .before .before .before .before))
 
 answer-of-requires : tie.Need-answer-of-requires
-answer-of-requires c κs = search needs
+answer-of-requires c κs = tt
 
 same-length : tie.Need-same-length
 same-length c = ⊎-elim (λ w. ap length (w .15 ∙ w .4 .ensures) ∙ length-put _ _ _) (λ w. ap length (w .2)) (c .before .match .came)

@@ -7,7 +7,6 @@ use Rattle.stage.specs.Plan.{pick}
 use Rattle.stage.specs.Sound.{stateSound}
 use Rattle.stage.specs.Steps.{earlyIn}
 use Rattle.stage.proofs.Cascade.{fails, holds}
-use borrow.Author.Needs.{needs}
 use Rattle.stage.proofs.State.early_in.Statement.{statement}
 use Rattle.stage.proofs.State.early_in.Tie as tie
 
@@ -22,21 +21,21 @@ reaching c = holds (c .before .reaches .ensures) (c .if2 .left)
 -- ---- the needs
 
 sound-requires : tie.Need-sound-requires
-sound-requires c κs = search needs
+sound-requires c κs = tt
 
 returns : tie.Need-returns
 unfolding earlyIn pick
 returns c = rw (fails (c .before .sound .ensures) (c .if1 .taken))
 
 reaches-requires : tie.Need-reaches-requires
-reaches-requires c κs = search needs
+reaches-requires c κs = tt
 
 returns-2 : tie.Need-returns-2
 unfolding earlyIn pick
 returns-2 c = rw (is-sound (c .before .before), fails (c .before .reaches .ensures) (c .if2 .taken))
 
 holds-requires : tie.Need-holds-requires
-holds-requires c κs = search needs
+holds-requires c κs = tt
 
 returns-3 : tie.Need-returns-3
 unfolding earlyIn pick

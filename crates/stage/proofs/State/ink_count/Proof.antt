@@ -10,7 +10,6 @@ use Rattle.stage.specs.Modify.{inkPlan}
 use Rattle.stage.specs.declared.Answer.the-variants.{BadState, ShortArea}
 use Rattle.stage.proofs.Cascade.{fails, holds, refused, passed, table-holds}
 use Rattle.stage.proofs.Turning.{in-room}
-use borrow.Author.Needs.{needs}
 use Rattle.stage.proofs.State.ink_count.Statement.{statement}
 use Rattle.stage.proofs.State.ink_count.Tie as tie
 
@@ -24,17 +23,17 @@ rows-found e =
     rows-hold (a .self .counts .rows) (a .floats .now) (a .words .now) 0 _ _ (e .before .row-room .ensures) (e .holds .ensures)
 
 sound-requires : tie.Need-sound-requires
-sound-requires c κs = search needs
+sound-requires c κs = tt
 
 returns : tie.Need-returns
 unfolding inkPlan
 returns c = refused nothing _ tt _ _ BadState (fails (c .before .sound .ensures) (c .if1 .taken))
 
 row-room-requires : tie.Need-row-room-requires
-row-room-requires c κs = search needs
+row-room-requires c κs = tt
 
 holds-requires : tie.Need-holds-requires
-holds-requires c κs = search needs
+holds-requires c κs = tt
 
 returns-2 : tie.Need-returns-2
 unfolding inkPlan
@@ -44,10 +43,10 @@ returns-2 c =
     (refused nothing _ tt _ _ (ShortArea 7) (fails (rows-found (c .before)) (c .if2 .taken)))
 
 room-of-requires : tie.Need-room-of-requires
-room-of-requires c κs = search needs
+room-of-requires c κs = tt
 
 holds-requires-2 : tie.Need-holds-requires-2
-holds-requires-2 c κs = search needs
+holds-requires-2 c κs = tt
 
 returns-3 : tie.Need-returns-3
 unfolding inkPlan

@@ -17,14 +17,14 @@ more-by-requires : tie.Need-more-by-requires
 more-by-requires c κs = search needs
 
 short-table-requires : tie.Need-short-table-requires
-short-table-requires c κs = search needs
+short-table-requires c κs = tt
 
 returns : tie.Need-returns
 unfolding lateAnswer pick
 returns c = rw (← fullest (c .before), ne-eqb _ _ (c .if1 .taken))
 
 if-else-requires : tie.Need-if-else-requires
-if-else-requires c κs = search needs
+if-else-requires c κs = tt
 
 returns-2 : tie.Need-returns-2
 unfolding lateAnswer pick

@@ -66,13 +66,13 @@ fits c n e =
 -- ---- the needs
 
 settle-requires : tie.Need-settle-requires
-settle-requires c κs = search needs
+settle-requires c κs = tt
 
 enum-known-answer : tie.Need-enum-known-answer
 enum-known-answer c = search needs
 
 from-flat-requires : tie.Need-from-flat-requires
-from-flat-requires c κs = search needs
+from-flat-requires c κs = tt
 
 cast-n : tie.Need-cast-n
 cast-n c = omega (arith, fits (settled (matched c)) _ (c .before .before .before .before .answer .given .1) .rows)
@@ -81,19 +81,19 @@ fill-requires : tie.Need-fill-requires
 fill-requires c κs = fits (settled (matched (c .before .before .before .before .before .before .before .before .before .before))) _ (c .before .before .before .before .before .before .before .before .before .before .before .before .before .before .answer .given .1)
 
 same-length : tie.Need-same-length
-same-length c = search needs
+same-length c = c .before .before .before .before .before .before .before .before .before .before .settle .kept .1 .1 .1 .1 .1 .1 .1 .0
 
 same-length-2 : tie.Need-same-length-2
-same-length-2 c = search needs
+same-length-2 c = c .before .before .before .before .before .before .before .before .before .before .settle .kept .1 .1 .1 .1 .1 .1 .1 .1 .0
 
 same-length-3 : tie.Need-same-length-3
-same-length-3 c = search needs
+same-length-3 c = c .before .before .before .before .before .before .before .before .before .before .settle .kept .1 .1 .1 .1 .1 .1 .1 .1 .1 .0
 
 same-length-4 : tie.Need-same-length-4
-same-length-4 c = search needs
+same-length-4 c = c .before .before .before .before .before .before .before .before .before .before .settle .kept .1 .1 .1 .1 .1 .1 .1 .1 .1 .1 .0
 
 same-length-5 : tie.Need-same-length-5
-same-length-5 c = search needs
+same-length-5 c = c .before .before .before .before .before .before .before .before .before .before .settle .kept .1 .1 .1 .1 .1 .1 .1 .1 .1 .1 .1 .0
 
 same-length-6 : tie.Need-same-length-6
 same-length-6 c = ⊎-elim (λ w. ap length (w .25) ∙ w .16 .kept .0) (λ w. ap length (w .2)) (c .match .came)

@@ -33,13 +33,13 @@ clear c = let e = answered (c .before) in early-clear _ 1 _ _ _ _ _ _ _ (e .befo
 -- ---- the needs
 
 family-of-requires : tie.Need-family-of-requires
-family-of-requires c κs = search needs
+family-of-requires c κs = tt
 
 room-of-requires : tie.Need-room-of-requires
-room-of-requires c κs = search needs
+room-of-requires c κs = tt
 
 early-in-requires : tie.Need-early-in-requires
-early-in-requires c κs = search needs
+early-in-requires c κs = tt
 
 enum-told : tie.Need-enum-told
 enum-told c = search needs
@@ -48,13 +48,13 @@ matrix-requires : tie.Need-matrix-requires
 matrix-requires c κs = leb-true _ _ (clear (c .before) .reach)
 
 has-flag-requires : tie.Need-has-flag-requires
-has-flag-requires c κs = search needs
+has-flag-requires c κs = tt
 
 has-flag-requires-2 : tie.Need-has-flag-requires-2
-has-flag-requires-2 c κs = search needs
+has-flag-requires-2 c κs = tt
 
 has-flag-requires-3 : tie.Need-has-flag-requires-3
-has-flag-requires-3 c κs = search needs
+has-flag-requires-3 c κs = tt
 
 turn-requires : tie.Need-turn-requires
 turn-requires c κs = let r = in-range (clear (told c .before)) in (r .low, r .high)
@@ -66,7 +66,7 @@ top-at-requires c κs =
     turned-in _ _ _ _ (d .turn .ensures .0) (r .low, r .high)
 
 product-of-requires : tie.Need-product-of-requires
-product-of-requires c κs = search needs
+product-of-requires c κs = tt
 
 slice-aggregate-append-f32 : tie.Need-slice-aggregate-append-f32
 slice-aggregate-append-f32 c = search needs

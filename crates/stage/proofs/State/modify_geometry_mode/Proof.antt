@@ -2,24 +2,23 @@
 use mathlib.Core.Path.{_∙_}
 use Rattle.stage.specs.Matrices.{geometryPlan}
 use Rattle.stage.proofs.Cascade.{done-if-sound}
-use borrow.Author.Needs.{needs}
 use Rattle.stage.proofs.State.modify_geometry_mode.Statement.{statement}
 use Rattle.stage.proofs.State.modify_geometry_mode.Tie as tie
 
 family-of-requires : tie.Need-family-of-requires
-family-of-requires c κs = search needs
+family-of-requires c κs = tt
 
 sound-requires : tie.Need-sound-requires
-sound-requires c κs = search needs
+sound-requires c κs = tt
 
 geometry-after-requires : tie.Need-geometry-after-requires
-geometry-after-requires c κs = search needs
+geometry-after-requires c κs = tt
 
 relights-requires : tie.Need-relights-requires
-relights-requires c κs = search needs
+relights-requires c κs = tt
 
 done-if-requires : tie.Need-done-if-requires
-done-if-requires c κs = search needs
+done-if-requires c κs = tt
 
 returns : tie.Need-returns
 unfolding geometryPlan

@@ -41,13 +41,13 @@ fits-areas e x m d =
 -- ---- the needs
 
 mark-at-requires : tie.Need-mark-at-requires
-mark-at-requires c κs = search needs
+mark-at-requires c κs = tt
 
 mark-at-requires-2 : tie.Need-mark-at-requires-2
-mark-at-requires-2 c κs = search needs
+mark-at-requires-2 c κs = tt
 
 sound-requires : tie.Need-sound-requires
-sound-requires c κs = search needs
+sound-requires c κs = tt
 
 array-read-t29 : tie.Need-array-read-t29
 array-read-t29 c = search needs
@@ -59,10 +59,10 @@ array-read-t33 : tie.Need-array-read-t33
 array-read-t33 c = search needs
 
 tables37-requires : tie.Need-tables37-requires
-tables37-requires c κs = search needs
+tables37-requires c κs = tt
 
 decode-requires : tie.Need-decode-requires
-decode-requires c κs = search needs
+decode-requires c κs = tt
 
 judge-requires : tie.Need-judge-requires
 judge-requires c κs =
@@ -73,13 +73,13 @@ enum-known-v : tie.Need-enum-known-v
 enum-known-v c = search needs
 
 answer-of-requires : tie.Need-answer-of-requires
-answer-of-requires c κs = search needs
+answer-of-requires c κs = tt
 
 enum-known-v-2 : tie.Need-enum-known-v-2
 enum-known-v-2 c = search needs
 
 append-unit-requires : tie.Need-append-unit-requires
-append-unit-requires c κs = search needs
+append-unit-requires c κs = tt
 
 remake-floats-requires : tie.Need-remake-floats-requires
 remake-floats-requires c κs =
@@ -107,7 +107,7 @@ array-read-depth-after : tie.Need-array-read-depth-after
 array-read-depth-after c = c .before .before .before .before .before .before .before .before .before .before .before .before .before .before .before .before .before .before .if2 .left
 
 depth-after-requires : tie.Need-depth-after-requires
-depth-after-requires c κs = search needs
+depth-after-requires c κs = tt
 
 mul-z : tie.Need-mul-z
 mul-z c = omega (arith, c .before .before .before .before .before .before .before .before .before .before .before .before .before .before .before .before .before .before .before .if2 .left)

@@ -46,13 +46,13 @@ due-done c = ⊎-elim (λ w. w .1 .given .1) (λ w. absurd (false≢true (sym (w
 -- ---- the needs
 
 room-of-requires : tie.Need-room-of-requires
-room-of-requires c κs = search needs
+room-of-requires c κs = tt
 
 early-in-requires : tie.Need-early-in-requires
-early-in-requires c κs = search needs
+early-in-requires c κs = tt
 
 popped-depth-requires : tie.Need-popped-depth-requires
-popped-depth-requires c κs = search needs
+popped-depth-requires c κs = tt
 
 enum-told : tie.Need-enum-told
 enum-told c = search needs
@@ -64,7 +64,7 @@ top-at-requires c κs =
     popped-in _ _ _ (d .before .before .before .before .popped-depth .ensures) (r .low, r .high)
 
 product-of-requires : tie.Need-product-of-requires
-product-of-requires c κs = search needs
+product-of-requires c κs = tt
 
 slice-aggregate-append-f32 : tie.Need-slice-aggregate-append-f32
 slice-aggregate-append-f32 c = search needs

@@ -4,15 +4,14 @@ use mir.Syntax.{w16}
 use mir.ValLaws.{toZ-ofZ}
 use Rattle.stage.specs.Lights.{fogPlan}
 use Rattle.stage.proofs.Cascade.{done-if-sound}
-use borrow.Author.Needs.{needs}
 use Rattle.stage.proofs.State.set_fog.Statement.{statement}
 use Rattle.stage.proofs.State.set_fog.Tie as tie
 
 sound-requires : tie.Need-sound-requires
-sound-requires c κs = search needs
+sound-requires c κs = tt
 
 done-if-requires : tie.Need-done-if-requires
-done-if-requires c κs = search needs
+done-if-requires c κs = tt
 
 returns : tie.Need-returns
 unfolding fogPlan

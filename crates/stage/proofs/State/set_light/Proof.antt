@@ -20,16 +20,16 @@ there : (c : tie.Then1) →
 there c = reached (c .before .before .sound .result) _ _ (c .before .reaches .ensures) (c .if1 .taken)
 
 if-else-requires : tie.Need-if-else-requires
-if-else-requires c κs = search needs
+if-else-requires c κs = tt
 
 sound-requires : tie.Need-sound-requires
-sound-requires c κs = search needs
+sound-requires c κs = tt
 
 cast-reaches : tie.Need-cast-reaches
 cast-reaches c = search needs
 
 reaches-requires : tie.Need-reaches-requires
-reaches-requires c κs = search needs
+reaches-requires c κs = tt
 
 colour-requires : tie.Need-colour-requires
 colour-requires c κs = rw (c .before .before .before .before .before .if-else .ensures ∙ picked _ 3 11 (c .if2 .taken)) at (there (c .before .before))
@@ -38,10 +38,10 @@ light-requires : tie.Need-light-requires
 light-requires c κs = rw (c .before .before .before .before .before .if-else .ensures ∙ left _ 3 11 (c .if2 .left)) at (there (c .before .before))
 
 with-light-requires : tie.Need-with-light-requires
-with-light-requires c κs = search needs
+with-light-requires c κs = tt
 
 told-of-requires : tie.Need-told-of-requires
-told-of-requires c κs = search needs
+told-of-requires c κs = tt
 
 returns : tie.Need-returns
 returns c =

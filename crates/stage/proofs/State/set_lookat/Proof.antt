@@ -6,7 +6,6 @@ use lib.ListN.{length}
 use denote.Ref.{now}
 use Rattle.stage.specs.Lights.{lookatPlan}
 use Rattle.stage.proofs.Cascade.{done-if-there, reached}
-use borrow.Author.Needs.{needs}
 use Rattle.stage.proofs.State.set_lookat.Statement.{statement}
 use Rattle.stage.proofs.State.set_lookat.Tie as tie
 
@@ -15,10 +14,10 @@ there : (c : tie.Then1) → let a = c .before .before .before .before .args in a
 there c = reached (c .before .before .sound .result) _ _ (c .before .reaches .ensures) (c .if1 .taken)
 
 sound-requires : tie.Need-sound-requires
-sound-requires c κs = search needs
+sound-requires c κs = tt
 
 reaches-requires : tie.Need-reaches-requires
-reaches-requires c κs = search needs
+reaches-requires c κs = tt
 
 add-direction : tie.Need-add-direction
 add-direction c = omega (arith, there c)
@@ -27,10 +26,10 @@ direction-requires : tie.Need-direction-requires
 direction-requires c κs = omega (arith, there c)
 
 with-axis-requires : tie.Need-with-axis-requires
-with-axis-requires c κs = search needs
+with-axis-requires c κs = tt
 
 told-of-requires : tie.Need-told-of-requires
-told-of-requires c κs = search needs
+told-of-requires c κs = tt
 
 returns : tie.Need-returns
 unfolding lookatPlan

@@ -2,18 +2,17 @@
 use mathlib.Core.Path.{_∙_}
 use Rattle.stage.specs.Lights.{numberPlan}
 use Rattle.stage.proofs.Cascade.{done-if-sound}
-use borrow.Author.Needs.{needs}
 use Rattle.stage.proofs.State.set_num_lights.Statement.{statement}
 use Rattle.stage.proofs.State.set_num_lights.Tie as tie
 
 sound-requires : tie.Need-sound-requires
-sound-requires c κs = search needs
+sound-requires c κs = tt
 
 light-number-requires : tie.Need-light-number-requires
-light-number-requires c κs = search needs
+light-number-requires c κs = tt
 
 done-if-requires : tie.Need-done-if-requires
-done-if-requires c κs = search needs
+done-if-requires c κs = tt
 
 returns : tie.Need-returns
 unfolding numberPlan

@@ -1,15 +1,14 @@
 -- `stage::State::set_texture` meets its contract. Assumes nothing.
 use Rattle.stage.specs.Lights.{texturePlan}
 use Rattle.stage.proofs.Cascade.{done-if-sound}
-use borrow.Author.Needs.{needs}
 use Rattle.stage.proofs.State.set_texture.Statement.{statement}
 use Rattle.stage.proofs.State.set_texture.Tie as tie
 
 sound-requires : tie.Need-sound-requires
-sound-requires c κs = search needs
+sound-requires c κs = tt
 
 done-if-requires : tie.Need-done-if-requires
-done-if-requires c κs = search needs
+done-if-requires c κs = tt
 
 returns : tie.Need-returns
 unfolding texturePlan

@@ -38,16 +38,16 @@ told c = let d = c .before .before in let a = start (judged d .before) .args in 
 -- ---- the needs
 
 rooms-of-requires : tie.Need-rooms-of-requires
-rooms-of-requires c κs = search needs
+rooms-of-requires c κs = tt
 
 early-requires : tie.Need-early-requires
-early-requires c κs = search needs
+early-requires c κs = tt
 
 enum-told : tie.Need-enum-told
 enum-told c = search needs
 
 unprepared-requires : tie.Need-unprepared-requires
-unprepared-requires c κs = search needs
+unprepared-requires c κs = tt
 
 returns : tie.Need-returns
 returns c =
@@ -75,7 +75,7 @@ enum-known-late : tie.Need-enum-known-late
 enum-known-late c = search needs
 
 unprepared-requires-2 : tie.Need-unprepared-requires-2
-unprepared-requires-2 c κs = search needs
+unprepared-requires-2 c κs = tt
 
 same-length : tie.Need-same-length
 same-length c = search needs
@@ -117,25 +117,25 @@ tables-written-requires c κs =
     (settled-range d, rows-count (a .self) (d .settled-by .result) (a .count) (r .result) (k .before .late .result) (k .before .late .ensures) (told k) (a .floats) (a .words) (ap (λ (x : Rooms). x .rows) (r .ensures)))
 
 lights-then-requires : tie.Need-lights-then-requires
-lights-then-requires c κs = search needs
+lights-then-requires c κs = tt
 
 lookat-then-requires : tie.Need-lookat-then-requires
-lookat-then-requires c κs = search needs
+lookat-then-requires c κs = tt
 
 same-length-4 : tie.Need-same-length-4
-same-length-4 c = search needs
+same-length-4 c = c .before .before .before .before .before .before .before .before .before .before .before .before .before .tables-written .kept .1 .1 .1 .0
 
 same-length-5 : tie.Need-same-length-5
-same-length-5 c = search needs
+same-length-5 c = c .before .before .before .before .before .before .before .before .before .before .before .before .before .tables-written .kept .1 .1 .1 .1 .0
 
 same-length-6 : tie.Need-same-length-6
-same-length-6 c = search needs
+same-length-6 c = c .before .before .before .before .before .before .before .before .before .before .before .before .before .tables-written .kept .1 .1 .1 .1 .1 .0
 
 same-length-7 : tie.Need-same-length-7
-same-length-7 c = search needs
+same-length-7 c = c .before .before .before .before .before .before .before .before .before .before .before .before .before .tables-written .kept .1 .1 .1 .1 .1 .1 .0
 
 same-length-8 : tie.Need-same-length-8
-same-length-8 c = search needs
+same-length-8 c = c .before .before .before .before .before .before .before .before .before .before .before .before .before .tables-written .kept .1 .1 .1 .1 .1 .1 .1 .0
 
 returns-3 : tie.Need-returns-3
 returns-3 c =

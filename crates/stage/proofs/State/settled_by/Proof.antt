@@ -15,31 +15,31 @@ use Rattle.stage.proofs.State.settled_by.Statement.{statement}
 use Rattle.stage.proofs.State.settled_by.Tie as tie
 
 family-of-requires : tie.Need-family-of-requires
-family-of-requires c κs = search needs
+family-of-requires c κs = tt
 
 top-at-requires : tie.Need-top-at-requires
 top-at-requires c κs = search needs
 
 to-flat-requires : tie.Need-to-flat-requires
-to-flat-requires c κs = search needs
+to-flat-requires c κs = tt
 
 combined-now-requires : tie.Need-combined-now-requires
-combined-now-requires c κs = search needs
+combined-now-requires c κs = tt
 
 scales-of-requires : tie.Need-scales-of-requires
-scales-of-requires c κs = search needs
+scales-of-requires c κs = tt
 
 is-lit-requires : tie.Need-is-lit-requires
-is-lit-requires c κs = search needs
+is-lit-requires c κs = tt
 
 texgen-mode-requires : tie.Need-texgen-mode-requires
-texgen-mode-requires c κs = search needs
+texgen-mode-requires c κs = tt
 
 is-foggy-requires : tie.Need-is-foggy-requires
-is-foggy-requires c κs = search needs
+is-foggy-requires c κs = tt
 
 fog-place-requires : tie.Need-fog-place-requires
-fog-place-requires c κs = search needs
+fog-place-requires c κs = tt
 
 slice-aggregate-last-is : tie.Need-slice-aggregate-last-is
 slice-aggregate-last-is c = search (needs, c .before .before .before .before .before .before .before .before .before .combined-now .ok)
@@ -48,13 +48,13 @@ last-is-requires : tie.Need-last-is-requires
 last-is-requires c κs = search (needs, c .before .before .before .before .before .before .before .before .before .combined-now .ok)
 
 scale-is-requires : tie.Need-scale-is-requires
-scale-is-requires c κs = search needs
+scale-is-requires c κs = tt
 
 folds-requires : tie.Need-folds-requires
-folds-requires c κs = search needs
+folds-requires c κs = tt
 
 folds-requires-2 : tie.Need-folds-requires-2
-folds-requires-2 c κs = search needs
+folds-requires-2 c κs = tt
 
 returns : tie.Need-returns
 returns c =

@@ -13,46 +13,46 @@ add-if-else : tie.Need-add-if-else
 add-if-else c = search needs
 
 if-else-requires : tie.Need-if-else-requires
-if-else-requires c κs = search needs
+if-else-requires c κs = tt
 
 less-one-requires : tie.Need-less-one-requires
-less-one-requires c κs = search needs
+less-one-requires c κs = tt
 
 less-one-requires-2 : tie.Need-less-one-requires-2
-less-one-requires-2 c κs = search needs
+less-one-requires-2 c κs = tt
 
 add-if-else-2 : tie.Need-add-if-else-2
 add-if-else-2 c = search needs
 
 if-else-requires-2 : tie.Need-if-else-requires-2
-if-else-requires-2 c κs = search needs
+if-else-requires-2 c κs = tt
 
 less-one-requires-3 : tie.Need-less-one-requires-3
-less-one-requires-3 c κs = search needs
+less-one-requires-3 c κs = tt
 
 if-else-requires-3 : tie.Need-if-else-requires-3
-if-else-requires-3 c κs = search needs
+if-else-requires-3 c κs = tt
 
 if-else-requires-4 : tie.Need-if-else-requires-4
-if-else-requires-4 c κs = search needs
+if-else-requires-4 c κs = tt
 
 if-else-requires-5 : tie.Need-if-else-requires-5
-if-else-requires-5 c κs = search needs
+if-else-requires-5 c κs = tt
 
 add-if-else-3 : tie.Need-add-if-else-3
 add-if-else-3 c = search needs
 
 if-else-requires-6 : tie.Need-if-else-requires-6
-if-else-requires-6 c κs = search needs
+if-else-requires-6 c κs = tt
 
 add-if-else-4 : tie.Need-add-if-else-4
 add-if-else-4 c = search needs
 
 if-else-requires-7 : tie.Need-if-else-requires-7
-if-else-requires-7 c κs = search needs
+if-else-requires-7 c κs = tt
 
 if-else-requires-8 : tie.Need-if-else-requires-8
-if-else-requires-8 c κs = search needs
+if-else-requires-8 c κs = tt
 
 array-read-t20 : tie.Need-array-read-t20
 array-read-t20 c = search needs

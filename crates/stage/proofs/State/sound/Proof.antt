@@ -1,12 +1,11 @@
 use lib.Dec.{leb}
 use Rattle.stage.specs.Sound.{countTests, stateSound}
 use Rattle.stage.proofs.Judged.{joined}
-use borrow.Author.Needs.{needs}
 use Rattle.stage.proofs.State.sound.Statement.{statement}
 use Rattle.stage.proofs.State.sound.Tie as tie
 
 sound-counts-requires : tie.Need-sound-counts-requires
-sound-counts-requires c κs = search needs
+sound-counts-requires c κs = tt
 
 returns : tie.Need-returns
 unfolding stateSound

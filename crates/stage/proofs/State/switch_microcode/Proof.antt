@@ -3,18 +3,17 @@ use mathlib.Core.Path.{_∙_}
 use lib.Ieee.{ofBits}
 use Rattle.stage.specs.Lights.{switched, microcodePlan}
 use Rattle.stage.proofs.Cascade.{done-if-sound}
-use borrow.Author.Needs.{needs}
 use Rattle.stage.proofs.State.switch_microcode.Statement.{statement}
 use Rattle.stage.proofs.State.switch_microcode.Tie as tie
 
 sound-requires : tie.Need-sound-requires
-sound-requires c κs = search needs
+sound-requires c κs = tt
 
 number-of-requires : tie.Need-number-of-requires
-number-of-requires c κs = search needs
+number-of-requires c κs = tt
 
 done-if-requires : tie.Need-done-if-requires
-done-if-requires c κs = search needs
+done-if-requires c κs = tt
 
 returns : tie.Need-returns
 unfolding microcodePlan switched ofBits

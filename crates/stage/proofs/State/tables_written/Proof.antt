@@ -11,7 +11,7 @@ add-c : tie.Need-add-c
 add-c c = search needs
 
 from-flat-requires : tie.Need-from-flat-requires
-from-flat-requires c κs = search needs
+from-flat-requires c κs = tt
 
 put-matrix-if-requires : tie.Need-put-matrix-if-requires
 put-matrix-if-requires c κs = search needs

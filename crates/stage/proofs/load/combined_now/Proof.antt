@@ -5,7 +5,7 @@ use Rattle.stage.proofs.load.combined_now.Statement.{statement}
 use Rattle.stage.proofs.load.combined_now.Tie as tie
 
 product-of-requires : tie.Need-product-of-requires
-product-of-requires c κs = search needs
+product-of-requires c κs = tt
 
 returns : tie.Need-returns
 unfolding pick

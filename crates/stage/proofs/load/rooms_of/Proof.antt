@@ -1,33 +1,32 @@
 use mathlib.Core.Path.{_∙_, ap₂}
 use Prim.Native.Nat.{min}
 use Rattle.stage.specs.Steps.{roomsOf}
-use borrow.Author.Needs.{needs}
 use Rattle.stage.proofs.load.rooms_of.Statement.{statement}
 use Rattle.stage.proofs.load.rooms_of.Tie as tie
 
 room-of-requires : tie.Need-room-of-requires
-room-of-requires c κs = search needs
+room-of-requires c κs = tt
 
 room-of-requires-2 : tie.Need-room-of-requires-2
-room-of-requires-2 c κs = search needs
+room-of-requires-2 c κs = tt
 
 room-of-requires-3 : tie.Need-room-of-requires-3
-room-of-requires-3 c κs = search needs
+room-of-requires-3 c κs = tt
 
 room-of-requires-4 : tie.Need-room-of-requires-4
-room-of-requires-4 c κs = search needs
+room-of-requires-4 c κs = tt
 
 room-of-requires-5 : tie.Need-room-of-requires-5
-room-of-requires-5 c κs = search needs
+room-of-requires-5 c κs = tt
 
 room-of-requires-6 : tie.Need-room-of-requires-6
-room-of-requires-6 c κs = search needs
+room-of-requires-6 c κs = tt
 
 room-of-requires-7 : tie.Need-room-of-requires-7
-room-of-requires-7 c κs = search needs
+room-of-requires-7 c κs = tt
 
 lesser-requires : tie.Need-lesser-requires
-lesser-requires c κs = search needs
+lesser-requires c κs = tt
 
 returns : tie.Need-returns
 unfolding roomsOf

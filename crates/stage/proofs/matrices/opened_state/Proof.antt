@@ -7,10 +7,10 @@ use Rattle.stage.proofs.matrices.opened_state.Statement.{statement}
 use Rattle.stage.proofs.matrices.opened_state.Tie as tie
 
 identity-requires : tie.Need-identity-requires
-identity-requires c κs = search needs
+identity-requires c κs = tt
 
 to-flat-requires : tie.Need-to-flat-requires
-to-flat-requires c κs = search needs
+to-flat-requires c κs = tt
 
 slice-aggregate-put-f32 : tie.Need-slice-aggregate-put-f32
 slice-aggregate-put-f32 c = search needs
@@ -19,10 +19,10 @@ slice-aggregate-put-f32-2 : tie.Need-slice-aggregate-put-f32-2
 slice-aggregate-put-f32-2 c = search needs
 
 put-f32-requires : tie.Need-put-f32-requires
-put-f32-requires c κs = search needs
+put-f32-requires c κs = tt
 
 blank-state-requires : tie.Need-blank-state-requires
-blank-state-requires c κs = search needs
+blank-state-requires c κs = tt
 
 returns : tie.Need-returns
 unfolding opened blank put laid ofBits

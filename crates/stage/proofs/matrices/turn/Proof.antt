@@ -7,13 +7,13 @@ use Rattle.stage.proofs.matrices.turn.Statement.{statement}
 use Rattle.stage.proofs.matrices.turn.Tie as tie
 
 from-flat-requires : tie.Need-from-flat-requires
-from-flat-requires c κs = search needs
+from-flat-requires c κs = tt
 
 made-of-requires : tie.Need-made-of-requires
-made-of-requires c κs = search needs
+made-of-requires c κs = tt
 
 to-flat-requires : tie.Need-to-flat-requires
-to-flat-requires c κs = search needs
+to-flat-requires c κs = tt
 
 returns : tie.Need-returns
 unfolding pick
@@ -23,13 +23,13 @@ top-at-requires : tie.Need-top-at-requires
 top-at-requires c κs = search needs
 
 made-of-requires-2 : tie.Need-made-of-requires-2
-made-of-requires-2 c κs = search needs
+made-of-requires-2 c κs = tt
 
 pushed-depth-requires : tie.Need-pushed-depth-requires
-pushed-depth-requires c κs = search needs
+pushed-depth-requires c κs = tt
 
 to-flat-requires-2 : tie.Need-to-flat-requires-2
-to-flat-requires-2 c κs = search needs
+to-flat-requires-2 c κs = tt
 
 sub-put-f32 : tie.Need-sub-put-f32
 sub-put-f32 c = pushed-low _ _ _ (c .before .before .pushed-depth .ensures) (c .before .before .before .before .before .before .before .pre)
@@ -44,7 +44,7 @@ slice-aggregate-put-f32 : tie.Need-slice-aggregate-put-f32
 slice-aggregate-put-f32 c = search needs
 
 put-f32-requires : tie.Need-put-f32-requires
-put-f32-requires c κs = search needs
+put-f32-requires c κs = tt
 
 returns-2 : tie.Need-returns-2
 unfolding pick

@@ -10,7 +10,7 @@ slice-aggregate-put-slot-2 : tie.Need-slice-aggregate-put-slot-2
 slice-aggregate-put-slot-2 c = search needs
 
 put-slot-requires : tie.Need-put-slot-requires
-put-slot-requires c κs = search needs
+put-slot-requires c κs = tt
 
 returns : tie.Need-returns
 unfolding axisIn

@@ -10,7 +10,7 @@ slice-aggregate-put-slot-2 : tie.Need-slice-aggregate-put-slot-2
 slice-aggregate-put-slot-2 c = search needs
 
 put-slot-requires : tie.Need-put-slot-requires
-put-slot-requires c κs = search needs
+put-slot-requires c κs = tt
 
 slice-aggregate-put-slot-3 : tie.Need-slice-aggregate-put-slot-3
 slice-aggregate-put-slot-3 c = search needs
@@ -19,7 +19,7 @@ slice-aggregate-put-slot-4 : tie.Need-slice-aggregate-put-slot-4
 slice-aggregate-put-slot-4 c = search needs
 
 put-slot-requires-2 : tie.Need-put-slot-requires-2
-put-slot-requires-2 c κs = search needs
+put-slot-requires-2 c κs = tt
 
 returns : tie.Need-returns
 unfolding lightIn
