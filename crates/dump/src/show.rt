@@ -196,50 +196,42 @@ fn print_values(v: Values) {
     }
 }
 
-// The name of an op.
+// The place of the next space, or the end.
+fn space(names: &[u8], at: usize) -> usize {
+    let mut k = at;
+    while k < names.len() {
+        if names[k] == b' ' {
+            return k;
+        }
+        k = k + 1;
+    }
+    k
+}
+
+// The name that has n others before it, each after a space and filled up to nine bytes.
+fn name(names: &[u8], n: u8) {
+    let from = (n as usize) * 9;
+    let to = space(names, from + 1);
+    if to < from {
+        return;
+    }
+    if to <= names.len() {
+        text(&names[from..to]);
+    }
+}
+
+// The name of an op: a command, or an act of the driver.
 fn command(op: u8) {
-    match op {
-        ops::OPEN => text(b" open"),
-        ops::MATRIX => text(b" matrix"),
-        ops::FORCE => text(b" force"),
-        ops::POP => text(b" pop"),
-        ops::GEOM => text(b" geom"),
-        ops::VIEWPORT => text(b" viewport"),
-        _ => setting(op),
+    if op < ops::OPEN {
+        return;
     }
-}
-
-fn setting(op: u8) {
-    match op {
-        ops::TEXTURE => text(b" texture"),
-        ops::FOG => text(b" fog"),
-        ops::LIGHTNUM => text(b" lightnum"),
-        ops::LIGHT => text(b" light"),
-        ops::LOOKAT => text(b" lookat"),
-        ops::UCODE => text(b" ucode"),
-        _ => drawing(op),
-    }
-}
-
-fn drawing(op: u8) {
-    match op {
-        ops::LOAD => text(b" load"),
-        ops::CULL => text(b" cull"),
-        ops::DEPTH => text(b" depth"),
-        ops::MODIFY => text(b" modify"),
-        ops::DRAW => text(b" draw"),
-        ops::INK => text(b" ink"),
-        _ => own(op),
-    }
-}
-
-// The acts of the driver.
-fn own(op: u8) {
-    match op {
-        ops::LEND => text(b" lend"),
-        ops::MARK => text(b" mark"),
-        ops::POKE => text(b" poke"),
-        _ => text(b" write"),
+    if op < ops::LEND {
+        name(
+            b" open     matrix   force    pop      geom     viewport texture  fog      lightnum light    lookat   load     cull     depth    modify   draw     ucode    ink",
+            op - ops::OPEN,
+        );
+    } else {
+        name(b" lend     mark     poke     write", op - ops::LEND);
     }
 }
 
