@@ -72,22 +72,22 @@ fn wide_bits(x: f64) -> u64
     }
 }
 
-pub(crate) fn single(x: f32) {
-    if x != x {
+// So many digits of a float's bits, or `nan`.
+fn hex(nan: bool, bits: u64, digits: usize) {
+    if nan {
         text(b" nan");
     } else {
         text(b" ");
-        io::print_hex(STDOUT_FILENO, bits(x) as u64, 8);
+        io::print_hex(STDOUT_FILENO, bits, digits);
     }
 }
 
+pub(crate) fn single(x: f32) {
+    hex(x != x, bits(x) as u64, 8);
+}
+
 pub(crate) fn double(x: f64) {
-    if x != x {
-        text(b" nan");
-    } else {
-        text(b" ");
-        io::print_hex(STDOUT_FILENO, wide_bits(x), 16);
-    }
+    hex(x != x, wide_bits(x), 16);
 }
 
 // The 16 bits of a number with a sign.
@@ -222,13 +222,10 @@ fn name(names: &[u8], n: u8) {
 
 // The name of an op: a command, or an act of the driver.
 fn command(op: u8) {
-    if op < ops::OPEN {
-        return;
-    }
     if op < ops::LEND {
         name(
-            b" open     matrix   force    pop      geom     viewport texture  fog      lightnum light    lookat   load     cull     depth    modify   draw     ucode    ink",
-            op - ops::OPEN,
+            b" none     open     matrix   force    pop      geom     viewport texture  fog      lightnum light    lookat   load     cull     depth    modify   draw     ucode    ink",
+            op,
         );
     } else {
         name(b" lend     mark     poke     write", op - ops::LEND);
