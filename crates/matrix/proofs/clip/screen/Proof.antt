@@ -25,7 +25,7 @@ f64-from-f32-requires-4 c κs = search needs
 
 returns : tie.Need-returns
 unfolding screenOf
-returns c = cc k64
+returns c = rw (c .before .before .before .f64-from-f32 .ensures, c .before .before .f64-from-f322 .ensures, c .before .f64-from-f323 .ensures, c .f64-from-f324 .ensures, k64)
 
 pub screen-spec : {M : Type 1} → statement M
 screen-spec =
