@@ -1,4 +1,5 @@
 -- `matrix::clip::bits_of` meets its contract. Assumes nothing.
+use Prim.Native.Nat.{_+_}
 use lib.Dec.{lit<}
 use Rattle.matrix.proofs.Bits.{two-fit, three-fit, four-fit, five-fit, six-fit}
 use Rattle.matrix.specs.Clip.{bitsOf}
@@ -77,9 +78,7 @@ add-result-5 c = six-fit (c .before .before .before .before .before .bit .ensure
 returns : tie.Need-returns
 unfolding bitsOf
 returns c =
-    let d = c .before .before in
-    let e = d .before .before in
-    rw (e .before .bit .ensures .0, e .bit2 .ensures .0, d .before .bit3 .ensures .0, d .bit4 .ensures .0, c .before .bit5 .ensures .0, c .bit6 .ensures .0)
+    λ i. c .before .before .before .before .before .bit .ensures .0 i + c .before .before .before .before .bit2 .ensures .0 i + c .before .before .before .bit3 .ensures .0 i + c .before .before .bit4 .ensures .0 i + c .before .bit5 .ensures .0 i + c .bit6 .ensures .0 i
 
 pub bits-of-spec : {M : Type 1} → statement M
 bits-of-spec =
