@@ -32,11 +32,8 @@ fn line(name: &[u8], xs: &[f32]) {
     show::end();
 }
 
-fn projection_line(projection: [f32; 16]) {
+fn view_lines(projection: [f32; 16], viewport: [f32; 6]) {
     line(b"proj", &projection);
-}
-
-fn viewport_line(viewport: [f32; 6]) {
     line(b"vp", &viewport);
 }
 
@@ -72,8 +69,7 @@ fn state_lines(s: State) {
     let ambient = s.lights.ambient;
     settings(s);
     tables::of_singles(b"stack", &stack, 16, s.depth);
-    projection_line(projection);
-    viewport_line(viewport);
+    view_lines(projection, viewport);
     light_lines(directions, colours);
     ambient_line(ambient);
     lookat_lines(s.lookat);

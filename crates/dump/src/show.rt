@@ -220,7 +220,7 @@ fn name(names: &[u8], n: u8) {
     }
 }
 
-// The name of an op: a command, or an act of the driver.
+// The name of an op: a command, of which there is no number 0, or an act of the driver.
 fn command(op: u8) {
     if op < ops::LEND {
         name(

@@ -17,37 +17,37 @@ mul-line : tie.Need-mul-line Inv-loop μ-loop
 mul-line c = search needs
 
 element-copy-out-line : tie.Need-element-copy-out-line Inv-loop μ-loop
-element-copy-out-line c = search needs
+element-copy-out-line c = c .loop-test .taken
 
 element-copy-out-t5 : tie.Need-element-copy-out-t5 Inv-loop μ-loop
-element-copy-out-t5 c = search needs
+element-copy-out-t5 c = c .before .loop-test .taken
 
 element-copy-out-t14 : tie.Need-element-copy-out-t14 Inv-loop μ-loop
-element-copy-out-t14 c = search needs
+element-copy-out-t14 c = c .before .before .loop-test .taken
 
 element-copy-out-t17 : tie.Need-element-copy-out-t17 Inv-loop μ-loop
-element-copy-out-t17 c = search needs
+element-copy-out-t17 c = c .before .before .before .loop-test .taken
 
 element-copy-out-t20 : tie.Need-element-copy-out-t20 Inv-loop μ-loop
-element-copy-out-t20 c = search needs
+element-copy-out-t20 c = c .before .before .before .before .loop-test .taken
 
 element-copy-out-t23 : tie.Need-element-copy-out-t23 Inv-loop μ-loop
-element-copy-out-t23 c = search needs
+element-copy-out-t23 c = c .before .before .before .before .before .loop-test .taken
 
 element-copy-out-t26 : tie.Need-element-copy-out-t26 Inv-loop μ-loop
-element-copy-out-t26 c = search needs
+element-copy-out-t26 c = c .before .before .before .before .before .before .loop-test .taken
 
 mul-t27 : tie.Need-mul-t27 Inv-loop μ-loop
 mul-t27 c = search needs
 
 element-copy-out-t30 : tie.Need-element-copy-out-t30 Inv-loop μ-loop
-element-copy-out-t30 c = search needs
+element-copy-out-t30 c = c .before .before .before .before .before .before .before .loop-test .taken
 
 cast-line : tie.Need-cast-line Inv-loop μ-loop
 cast-line c = search needs
 
 line-requires : tie.Need-line-requires Inv-loop μ-loop
-line-requires c κs = search needs
+line-requires c κs = tt
 
 add-k : tie.Need-add-k Inv-loop μ-loop
 add-k c = search needs
