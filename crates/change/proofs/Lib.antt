@@ -2,3 +2,4 @@ pub mod Accepted
 pub mod Inks
 pub mod Kept
 pub mod Storing
+pub mod Fields

@@ -2,3 +2,4 @@ pub mod Ends
 pub mod Rules
 pub mod Shorts
 pub mod Slots
+pub mod Cells

@@ -28,23 +28,29 @@ fn settings(s: State) {
 
 fn line(name: &[u8], xs: &[f32]) {
     show::text(name);
-    tables::singles(xs);
+    tables::singles(xs, 0, xs.len());
     show::end();
 }
 
-fn projection_line(projection: [f32; 16]) {
+fn view_lines(projection: [f32; 16], viewport: [f32; 6]) {
     line(b"proj", &projection);
-}
-
-fn viewport_line(viewport: [f32; 6]) {
     line(b"vp", &viewport);
 }
 
-fn light_lines(l: Lights) {
-    let directions = l.directions;
-    let colours = l.colours;
-    let ambient = l.ambient;
-    tables::of_pairs(b"light", &directions, &colours, 3, 8);
+// A light's direction and its colour.
+fn light_lines(directions: [f32; 24], colours: [f32; 24]) {
+    let mut at = 0;
+    let mut k: u32 = 0;
+    while k < 8 {
+        show::entry(b"light", k);
+        tables::singles(&directions, at, 3);
+        at = tables::singles(&colours, at, 3);
+        show::end();
+        k = k + 1;
+    }
+}
+
+fn ambient_line(ambient: [f32; 3]) {
     line(b"ambient", &ambient);
 }
 
@@ -58,33 +64,74 @@ fn state_lines(s: State) {
     let stack = s.stack;
     let projection = s.projection;
     let viewport = s.viewport;
+    let directions = s.lights.directions;
+    let colours = s.lights.colours;
+    let ambient = s.lights.ambient;
     settings(s);
     tables::of_singles(b"stack", &stack, 16, s.depth);
-    projection_line(projection);
-    viewport_line(viewport);
-    light_lines(s.lights);
+    view_lines(projection, viewport);
+    light_lines(directions, colours);
+    ambient_line(ambient);
     lookat_lines(s.lookat);
 }
 
-// The entries in use of each table.
-fn table_lines(
+// What is written before the tables.
+fn head(s: State) {
+    show::text(b"end\nopen");
+    show::truth(s.opened);
+    show::end();
+    if s.opened {
+        show::text(b"counts");
+        show::counts(s.counts);
+        show::end();
+        state_lines(s);
+    }
+}
+
+// The counts that are shown: before the opening there are no entries.
+fn shown(s: State) -> Counts {
+    if s.opened {
+        s.counts
+    } else {
+        Counts {
+            matrices: 0,
+            viewports: 0,
+            scales: 0,
+            lights: 0,
+            lookats: 0,
+            fogs: 0,
+            rows: 0,
+            indices: 0,
+            runs: 0,
+        }
+    }
+}
+
+// The entries in use of tables 1 to 5.
+fn early_tables(
     c: Counts,
     matrices: &[f32],
     viewports: &[f32],
     scales: &[f32],
     lights: &[f32],
     lookats: &[f32],
-    fogs: &[i16],
-    floats: &[f32],
-    words: &[u32],
-    indices: &[u32],
-    runs: &[u32],
 ) {
     tables::of_singles(b"t1", matrices, 16, c.matrices);
     tables::of_singles(b"t2", viewports, 6, c.viewports);
     tables::of_singles(b"t3", scales, 4, c.scales);
     tables::of_singles(b"t4", lights, 6, c.lights);
     tables::of_singles(b"t5", lookats, 6, c.lookats);
+}
+
+// Those of tables 6 to 9.
+fn late_tables(
+    c: Counts,
+    fogs: &[i16],
+    floats: &[f32],
+    words: &[u32],
+    indices: &[u32],
+    runs: &[u32],
+) {
     tables::of_halves(b"t6", fogs, 2, c.fogs);
     tables::of_rows(b"t7", floats, vertex::FLOATS, words, vertex::WORDS, c.rows);
     tables::of_words(b"t8", indices, 1, c.indices);
@@ -98,24 +145,23 @@ fn area(k: u32, h: u64) {
     show::end();
 }
 
-// The hash of each area, lent or not.
-fn area_lines(
+// The hash of each area of tables 1 to 5, lent or not.
+fn early_areas(
     matrices: &[f32],
     viewports: &[f32],
     scales: &[f32],
     lights: &[f32],
     lookats: &[f32],
-    fogs: &[i16],
-    floats: &[f32],
-    words: &[u32],
-    indices: &[u32],
-    runs: &[u32],
 ) {
     area(0, hash::of_singles(matrices));
     area(1, hash::of_singles(viewports));
     area(2, hash::of_singles(scales));
     area(3, hash::of_singles(lights));
     area(4, hash::of_singles(lookats));
+}
+
+// The same for tables 6 to 9.
+fn late_areas(fogs: &[i16], floats: &[f32], words: &[u32], indices: &[u32], runs: &[u32]) {
     area(5, hash::of_halves(fogs));
     area(6, hash::of_singles(floats));
     area(7, hash::of_words(words));
@@ -137,40 +183,11 @@ pub fn write(
     indices: &[u32],
     runs: &[u32],
 ) {
-    show::text(b"end\nopen");
-    show::truth(s.opened);
-    show::end();
-    if s.opened {
-        let c = s.counts;
-        show::text(b"counts");
-        show::counts(c);
-        show::end();
-        state_lines(s);
-        table_lines(
-            c,
-            matrices,
-            viewports,
-            scales,
-            lights,
-            lookats,
-            fogs,
-            floats,
-            words,
-            indices,
-            runs,
-        );
-        slots::lines(s);
-    }
-    area_lines(
-        matrices,
-        viewports,
-        scales,
-        lights,
-        lookats,
-        fogs,
-        floats,
-        words,
-        indices,
-        runs,
-    );
+    let c = shown(s);
+    head(s);
+    early_tables(c, matrices, viewports, scales, lights, lookats);
+    late_tables(c, fogs, floats, words, indices, runs);
+    slots::lines(s);
+    early_areas(matrices, viewports, scales, lights, lookats);
+    late_areas(fogs, floats, words, indices, runs);
 }

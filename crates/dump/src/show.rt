@@ -72,22 +72,22 @@ fn wide_bits(x: f64) -> u64
     }
 }
 
-pub(crate) fn single(x: f32) {
-    if x != x {
+// So many digits of a float's bits, or `nan`.
+fn hex(nan: bool, bits: u64, digits: usize) {
+    if nan {
         text(b" nan");
     } else {
         text(b" ");
-        io::print_hex(STDOUT_FILENO, bits(x) as u64, 8);
+        io::print_hex(STDOUT_FILENO, bits, digits);
     }
 }
 
+pub(crate) fn single(x: f32) {
+    hex(x != x, bits(x) as u64, 8);
+}
+
 pub(crate) fn double(x: f64) {
-    if x != x {
-        text(b" nan");
-    } else {
-        text(b" ");
-        io::print_hex(STDOUT_FILENO, wide_bits(x), 16);
-    }
+    hex(x != x, wide_bits(x), 16);
 }
 
 // The 16 bits of a number with a sign.
@@ -196,50 +196,39 @@ fn print_values(v: Values) {
     }
 }
 
-// The name of an op.
+// The place of the next space, or the end.
+fn space(names: &[u8], at: usize) -> usize {
+    let mut k = at;
+    while k < names.len() {
+        if names[k] == b' ' {
+            return k;
+        }
+        k = k + 1;
+    }
+    k
+}
+
+// The name that has n others before it, each after a space and filled up to nine bytes.
+fn name(names: &[u8], n: u8) {
+    let from = (n as usize) * 9;
+    let to = space(names, from + 1);
+    if to < from {
+        return;
+    }
+    if to <= names.len() {
+        text(&names[from..to]);
+    }
+}
+
+// The name of an op: a command, of which there is no number 0, or an act of the driver.
 fn command(op: u8) {
-    match op {
-        ops::OPEN => text(b" open"),
-        ops::MATRIX => text(b" matrix"),
-        ops::FORCE => text(b" force"),
-        ops::POP => text(b" pop"),
-        ops::GEOM => text(b" geom"),
-        ops::VIEWPORT => text(b" viewport"),
-        _ => setting(op),
-    }
-}
-
-fn setting(op: u8) {
-    match op {
-        ops::TEXTURE => text(b" texture"),
-        ops::FOG => text(b" fog"),
-        ops::LIGHTNUM => text(b" lightnum"),
-        ops::LIGHT => text(b" light"),
-        ops::LOOKAT => text(b" lookat"),
-        ops::UCODE => text(b" ucode"),
-        _ => drawing(op),
-    }
-}
-
-fn drawing(op: u8) {
-    match op {
-        ops::LOAD => text(b" load"),
-        ops::CULL => text(b" cull"),
-        ops::DEPTH => text(b" depth"),
-        ops::MODIFY => text(b" modify"),
-        ops::DRAW => text(b" draw"),
-        ops::INK => text(b" ink"),
-        _ => own(op),
-    }
-}
-
-// The acts of the driver.
-fn own(op: u8) {
-    match op {
-        ops::LEND => text(b" lend"),
-        ops::MARK => text(b" mark"),
-        ops::POKE => text(b" poke"),
-        _ => text(b" write"),
+    if op < ops::LEND {
+        name(
+            b" none     open     matrix   force    pop      geom     viewport texture  fog      lightnum light    lookat   load     cull     depth    modify   draw     ucode    ink",
+            op,
+        );
+    } else {
+        name(b" lend     mark     poke     write", op - ops::LEND);
     }
 }
 

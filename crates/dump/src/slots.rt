@@ -44,28 +44,26 @@ fn line(k: u32, s: Slot) {
     show::end();
 }
 
-pub(crate) fn lines(s: State) {
-    let row = s.row;
-    let ever = s.ever;
-    let loaded = s.loaded;
-    let drawn = s.drawn;
-    let coded = s.coded;
-    let code = s.code;
-    let deep = s.deep;
-    let z = s.z;
+fn each(s: State) {
     let mut k: usize = 0;
     while k < 256 {
         let slot = Slot {
-            row: row[k],
-            ever: ever[k],
-            loaded: loaded[k],
-            drawn: drawn[k],
-            coded: coded[k],
-            code: code[k],
-            deep: deep[k],
-            z: z[k],
+            row: s.row[k],
+            ever: s.ever[k],
+            loaded: s.loaded[k],
+            drawn: s.drawn[k],
+            coded: s.coded[k],
+            code: s.code[k],
+            deep: s.deep[k],
+            z: s.z[k],
         };
         line(k as u32, slot);
         k = k + 1;
+    }
+}
+
+pub(crate) fn lines(s: State) {
+    if s.opened {
+        each(s);
     }
 }

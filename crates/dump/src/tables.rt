@@ -1,94 +1,97 @@
 // The entries of a table, a line each, as far as they lie inside their area.
 use crate::show;
 
-pub(crate) fn singles(xs: &[f32]) {
-    let mut k = 0;
-    while k < xs.len() {
+// How many of `count` entries of `width` numbers lie whole inside an area of `length`.
+fn inside(length: usize, width: usize, count: u32) -> u32 {
+    if width == 0 {
+        return 0;
+    }
+    let whole = length / width;
+    if whole < count as usize {
+        whole as u32
+    } else {
+        count
+    }
+}
+
+// `width` numbers from `at` on, as far as there are any; the place after them. The same for other types below.
+pub(crate) fn singles(xs: &[f32], at: usize, width: usize) -> usize {
+    let mut k = at;
+    let mut left = width;
+    while left > 0 {
+        if k >= xs.len() {
+            return k;
+        }
         show::single(xs[k]);
         k = k + 1;
+        left = left - 1;
     }
+    k
 }
 
-fn halves(xs: &[i16]) {
-    let mut k = 0;
-    while k < xs.len() {
+fn halves(xs: &[i16], at: usize, width: usize) -> usize {
+    let mut k = at;
+    let mut left = width;
+    while left > 0 {
+        if k >= xs.len() {
+            return k;
+        }
         show::signed(xs[k]);
         k = k + 1;
+        left = left - 1;
     }
+    k
 }
 
-fn words(xs: &[u32]) {
-    let mut k = 0;
-    while k < xs.len() {
+fn words(xs: &[u32], at: usize, width: usize) -> usize {
+    let mut k = at;
+    let mut left = width;
+    while left > 0 {
+        if k >= xs.len() {
+            return k;
+        }
         show::word(xs[k]);
         k = k + 1;
+        left = left - 1;
     }
+    k
 }
 
 // `count` entries of `width` f32.
 pub(crate) fn of_singles(name: &[u8], xs: &[f32], width: usize, count: u32) {
+    let n = inside(xs.len(), width, count);
     let mut at = 0;
     let mut k: u32 = 0;
-    while k < count {
-        if xs.len() - at < width {
-            return;
-        }
+    while k < n {
         show::entry(name, k);
-        singles(&xs[at..at + width]);
+        at = singles(xs, at, width);
         show::end();
-        at = at + width;
-        k = k + 1;
-    }
-}
-
-// `count` entries of `width` f32 from each of two areas.
-pub(crate) fn of_pairs(name: &[u8], xs: &[f32], ys: &[f32], width: usize, count: u32) {
-    let mut at = 0;
-    let mut k: u32 = 0;
-    while k < count {
-        if xs.len() - at < width {
-            return;
-        }
-        if ys.len() - at < width {
-            return;
-        }
-        show::entry(name, k);
-        singles(&xs[at..at + width]);
-        singles(&ys[at..at + width]);
-        show::end();
-        at = at + width;
         k = k + 1;
     }
 }
 
 // `count` entries of `width` i16.
 pub(crate) fn of_halves(name: &[u8], xs: &[i16], width: usize, count: u32) {
+    let n = inside(xs.len(), width, count);
     let mut at = 0;
     let mut k: u32 = 0;
-    while k < count {
-        if xs.len() - at < width {
-            return;
-        }
+    while k < n {
         show::entry(name, k);
-        halves(&xs[at..at + width]);
+        at = halves(xs, at, width);
         show::end();
-        at = at + width;
         k = k + 1;
     }
 }
 
 // `count` entries of `width` u32.
 pub(crate) fn of_words(name: &[u8], xs: &[u32], width: usize, count: u32) {
+    let n = inside(xs.len(), width, count);
     let mut at = 0;
     let mut k: u32 = 0;
-    while k < count {
-        if xs.len() - at < width {
-            return;
-        }
+    while k < n {
         show::entry(name, k);
-        words(&xs[at..at + width]);
+        at = words(xs, at, width);
         show::end();
-        at = at + width;
         k = k + 1;
     }
 }
@@ -102,22 +105,15 @@ pub(crate) fn of_rows(
     width: usize,
     count: u32,
 ) {
+    let n = inside(row_words.len(), width, inside(floats.len(), wide, count));
     let mut at = 0;
     let mut from = 0;
     let mut k: u32 = 0;
-    while k < count {
-        if floats.len() - at < wide {
-            return;
-        }
-        if row_words.len() - from < width {
-            return;
-        }
+    while k < n {
         show::entry(name, k);
-        singles(&floats[at..at + wide]);
-        words(&row_words[from..from + width]);
+        at = singles(floats, at, wide);
+        from = words(row_words, from, width);
         show::end();
-        at = at + wide;
-        from = from + width;
         k = k + 1;
     }
 }

@@ -1,2 +1,3 @@
 pub mod Believe
 pub mod Constants
+pub mod Bits

@@ -1,9 +1,11 @@
 -- `change::remake::change_floats` meets its contract. Assumes nothing.
-use lib.ListN.{length-set}
+use mathlib.Core.Path.{refl}
+use lib.ListN.{length, length-set}
 use native.Mathlib.Omega.{arith}
 use Rattle.areas.specs.Widths.{floatWidth, sFloat, tFloat, screenX, screenY, screenZ}
 use Rattle.change.specs.Decoded.{floatsAfter}
 use Rattle.change.proofs.Storing.{unstored, stored}
+use Rattle.change.proofs.Fields.{field-in, field-fits, field-bytes}
 use borrow.Author.Needs.{needs}
 use Rattle.change.proofs.remake.change_floats.Statement.{statement}
 use Rattle.change.proofs.remake.change_floats.Tie as tie
@@ -15,55 +17,55 @@ enum-known-c : tie.Need-enum-known-c
 enum-known-c c = search needs
 
 add-floats : tie.Need-add-floats
-add-floats c = search needs
+add-floats c = field-fits (c .before .before .before .args .at) (length (c .before .before .before .args .floats .now)) floatWidth (c .before .before .before .pre) (c .before .before .before .good .0 .1) 3 refl
 
 mul-floats : tie.Need-mul-floats
-mul-floats c = search needs
+mul-floats c = field-bytes (c .before .before .before .args .at) (length (c .before .before .before .args .floats .now)) floatWidth (c .before .before .before .pre) (c .before .before .before .good .0 .1) 3 refl
 
 slice-write-floats : tie.Need-slice-write-floats
-slice-write-floats c = search needs
+slice-write-floats c = field-in (c .before .before .before .args .at) (length (c .before .before .before .args .floats .now)) floatWidth (c .before .before .before .pre) 3 refl
 
 add-floats-2 : tie.Need-add-floats-2
-add-floats-2 c = search needs
+add-floats-2 c = field-fits (c .before .before .before .args .at) (length (c .before .before .before .args .floats .now)) floatWidth (c .before .before .before .pre) (c .before .before .before .good .0 .1) 4 refl
 
 mul-floats-2 : tie.Need-mul-floats-2
-mul-floats-2 c = search needs
+mul-floats-2 c = field-bytes (c .before .before .before .args .at) (length (c .before .before .before .args .floats .now)) floatWidth (c .before .before .before .pre) (c .before .before .before .good .0 .1) 4 refl
 
 slice-write-floats-2 : tie.Need-slice-write-floats-2
-slice-write-floats-2 c = simp length-set (omega arith)
+slice-write-floats-2 c = simp length-set (field-in (c .before .before .before .args .at) (length (c .before .before .before .args .floats .now)) floatWidth (c .before .before .before .pre) 4 refl)
 
 enum-known-c-2 : tie.Need-enum-known-c-2
 enum-known-c-2 c = search needs
 
 add-floats-3 : tie.Need-add-floats-3
-add-floats-3 c = search needs
+add-floats-3 c = field-fits (c .before .before .before .args .at) (length (c .before .before .before .args .floats .now)) floatWidth (c .before .before .before .pre) (c .before .before .before .good .0 .1) 5 refl
 
 mul-floats-3 : tie.Need-mul-floats-3
-mul-floats-3 c = search needs
+mul-floats-3 c = field-bytes (c .before .before .before .args .at) (length (c .before .before .before .args .floats .now)) floatWidth (c .before .before .before .pre) (c .before .before .before .good .0 .1) 5 refl
 
 slice-write-floats-3 : tie.Need-slice-write-floats-3
-slice-write-floats-3 c = search needs
+slice-write-floats-3 c = field-in (c .before .before .before .args .at) (length (c .before .before .before .args .floats .now)) floatWidth (c .before .before .before .pre) 5 refl
 
 add-floats-4 : tie.Need-add-floats-4
-add-floats-4 c = search needs
+add-floats-4 c = field-fits (c .before .before .before .args .at) (length (c .before .before .before .args .floats .now)) floatWidth (c .before .before .before .pre) (c .before .before .before .good .0 .1) 6 refl
 
 mul-floats-4 : tie.Need-mul-floats-4
-mul-floats-4 c = search needs
+mul-floats-4 c = field-bytes (c .before .before .before .args .at) (length (c .before .before .before .args .floats .now)) floatWidth (c .before .before .before .pre) (c .before .before .before .good .0 .1) 6 refl
 
 slice-write-floats-4 : tie.Need-slice-write-floats-4
-slice-write-floats-4 c = simp length-set (omega arith)
+slice-write-floats-4 c = simp length-set (field-in (c .before .before .before .args .at) (length (c .before .before .before .args .floats .now)) floatWidth (c .before .before .before .pre) 6 refl)
 
 enum-known-c-3 : tie.Need-enum-known-c-3
 enum-known-c-3 c = search needs
 
 add-floats-5 : tie.Need-add-floats-5
-add-floats-5 c = search needs
+add-floats-5 c = field-fits (c .before .before .before .args .at) (length (c .before .before .before .args .floats .now)) floatWidth (c .before .before .before .pre) (c .before .before .before .good .0 .1) 7 refl
 
 mul-floats-5 : tie.Need-mul-floats-5
-mul-floats-5 c = search needs
+mul-floats-5 c = field-bytes (c .before .before .before .args .at) (length (c .before .before .before .args .floats .now)) floatWidth (c .before .before .before .pre) (c .before .before .before .good .0 .1) 7 refl
 
 slice-write-floats-5 : tie.Need-slice-write-floats-5
-slice-write-floats-5 c = search needs
+slice-write-floats-5 c = field-in (c .before .before .before .args .at) (length (c .before .before .before .args .floats .now)) floatWidth (c .before .before .before .pre) 7 refl
 
 returns : tie.Need-returns
 unfolding floatsAfter

@@ -1,5 +1,6 @@
 -- `matrix::math::mul4` meets its contract. Assumes nothing.
 use borrow.Author.Needs.{needs}
+use mathlib.Core.List.{[], _∷_}
 use Rattle.matrix.specs.Math.{times}
 use Rattle.matrix.proofs.math.mul4.Statement.{statement}
 use Rattle.matrix.proofs.math.mul4.Tie as tie
@@ -30,7 +31,8 @@ mul-row-vec4-requires-4 c κs = search needs
 
 returns : tie.Need-returns
 unfolding times
-returns c = cc
+returns c =
+    λ i. c .before .before .before .before .before .before .mul-row-vec4 .ensures i ∷ c .before .before .before .before .mul-row-vec42 .ensures i ∷ c .before .before .mul-row-vec43 .ensures i ∷ c .mul-row-vec44 .ensures i ∷ []
 
 pub mul4-spec : {M : Type 1} → statement M
 mul4-spec =

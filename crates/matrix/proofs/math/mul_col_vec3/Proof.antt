@@ -1,5 +1,6 @@
 -- `matrix::math::mul_col_vec3` meets its contract. Assumes nothing.
 use borrow.Author.Needs.{needs}
+use mathlib.Core.List.{[], _∷_}
 use Rattle.matrix.specs.Math.{colTimes}
 use Rattle.matrix.proofs.math.mul_col_vec3.Statement.{statement}
 use Rattle.matrix.proofs.math.mul_col_vec3.Tie as tie
@@ -15,7 +16,7 @@ dot-of-requires-3 c κs = search needs
 
 returns : tie.Need-returns
 unfolding colTimes
-returns c = cc
+returns c = λ i. c .before .before .dot-of .ensures i ∷ c .before .dot-of2 .ensures i ∷ c .dot-of3 .ensures i ∷ []
 
 pub mul-col-vec3-spec : {M : Type 1} → statement M
 mul-col-vec3-spec =

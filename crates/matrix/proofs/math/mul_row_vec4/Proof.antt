@@ -1,5 +1,6 @@
 -- `matrix::math::mul_row_vec4` meets its contract. Assumes nothing.
 use borrow.Author.Needs.{needs}
+use mathlib.Core.List.{[], _∷_}
 use Rattle.matrix.specs.Math.{rowTimes}
 use Rattle.matrix.proofs.math.mul_row_vec4.Statement.{statement}
 use Rattle.matrix.proofs.math.mul_row_vec4.Tie as tie
@@ -18,7 +19,8 @@ column-of-requires-4 c κs = search needs
 
 returns : tie.Need-returns
 unfolding rowTimes
-returns c = cc
+returns c =
+    λ i. c .before .before .before .column-of .ensures i ∷ c .before .before .column-of2 .ensures i ∷ c .before .column-of3 .ensures i ∷ c .column-of4 .ensures i ∷ []
 
 pub mul-row-vec4-spec : {M : Type 1} → statement M
 mul-row-vec4-spec =
