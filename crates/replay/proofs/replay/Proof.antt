@@ -67,64 +67,64 @@ play-requires : tie.Need-play-requires
 play-requires c κs = (c .before .before .before .before .before .before .before .before .before .before .before .pre .0, c .before .before .before .before .before .before .before .before .before .before .before .pre .1 .0)
 
 array-share-prefix-matrices : tie.Need-array-share-prefix-matrices
-array-share-prefix-matrices c = room-of _ _ _ (c .before .before .before .before .before .before .before .before .before .before .play .last .1 .1 .0) (c .before .before .before .before .before .before .before .before .before .matrices2 .given) (c .before .before .before .before .before .before .before .before .before .before .before .before .before .before .before .before .before .before .before .before .before .before .pre .1 .1 .matrices)
+array-share-prefix-matrices c = room-of _ _ _ (c .before .before .before .before .before .before .before .before .before .before .play .last .1 .1 .0) (c .before .before .before .before .before .before .before .before .before .before .play .kept .1 .1 .0) (c .before .before .before .before .before .before .before .before .before .before .before .before .before .before .before .before .before .before .before .before .before .before .pre .1 .1 .matrices)
 
 slice-aggregate-write : tie.Need-slice-aggregate-write
-slice-aggregate-write c = front-still _ _ _ (c .before .before .before .before .before .before .before .before .before .before .before .play .last .1 .1 .0) (c .before .before .before .before .before .before .before .before .before .before .matrices2 .given) (c .before .before .before .before .before .before .before .before .before .before .before .before .before .before .before .before .before .before .before .before .before .before .before .pre .1 .1 .matrices)
+slice-aggregate-write c = front-still _ _ _ (c .before .before .before .before .before .before .before .before .before .before .before .play .last .1 .1 .0) (c .before .before .before .before .before .before .before .before .before .before .before .play .kept .1 .1 .0) (c .before .before .before .before .before .before .before .before .before .before .before .before .before .before .before .before .before .before .before .before .before .before .before .pre .1 .1 .matrices)
 
 array-share-prefix-viewports : tie.Need-array-share-prefix-viewports
-array-share-prefix-viewports c = room-of _ _ _ (c .before .before .before .before .before .before .before .before .before .before .before .play .last .1 .1 .1 .0) (c .before .before .before .before .before .before .before .before .before .viewports2 .given) (c .before .before .before .before .before .before .before .before .before .before .before .before .before .before .before .before .before .before .before .before .before .before .before .pre .1 .1 .viewports)
+array-share-prefix-viewports c = room-of _ _ _ (c .before .before .before .before .before .before .before .before .before .before .before .play .last .1 .1 .1 .0) (c .before .before .before .before .before .before .before .before .before .before .before .play .kept .1 .1 .1 .0) (c .before .before .before .before .before .before .before .before .before .before .before .before .before .before .before .before .before .before .before .before .before .before .before .pre .1 .1 .viewports)
 
 slice-aggregate-write-2 : tie.Need-slice-aggregate-write-2
-slice-aggregate-write-2 c = front-still _ _ _ (c .before .before .before .before .before .before .before .before .before .before .before .before .play .last .1 .1 .1 .0) (c .before .before .before .before .before .before .before .before .before .before .viewports2 .given) (c .before .before .before .before .before .before .before .before .before .before .before .before .before .before .before .before .before .before .before .before .before .before .before .before .pre .1 .1 .viewports)
+slice-aggregate-write-2 c = front-still _ _ _ (c .before .before .before .before .before .before .before .before .before .before .before .before .play .last .1 .1 .1 .0) (c .before .before .before .before .before .before .before .before .before .before .before .before .play .kept .1 .1 .1 .0) (c .before .before .before .before .before .before .before .before .before .before .before .before .before .before .before .before .before .before .before .before .before .before .before .before .pre .1 .1 .viewports)
 
 array-share-prefix-scales : tie.Need-array-share-prefix-scales
-array-share-prefix-scales c = room-of _ _ _ (c .before .before .before .before .before .before .before .before .before .before .before .before .play .last .1 .1 .1 .1 .0) (c .before .before .before .before .before .before .before .before .before .scales2 .given) (c .before .before .before .before .before .before .before .before .before .before .before .before .before .before .before .before .before .before .before .before .before .before .before .before .pre .1 .1 .scales)
+array-share-prefix-scales c = room-of _ _ _ (c .before .before .before .before .before .before .before .before .before .before .before .before .play .last .1 .1 .1 .1 .0) (c .before .before .before .before .before .before .before .before .before .before .before .before .play .kept .1 .1 .1 .1 .0) (c .before .before .before .before .before .before .before .before .before .before .before .before .before .before .before .before .before .before .before .before .before .before .before .before .pre .1 .1 .scales)
 
 slice-aggregate-write-3 : tie.Need-slice-aggregate-write-3
-slice-aggregate-write-3 c = front-still _ _ _ (c .before .before .before .before .before .before .before .before .before .before .before .before .before .play .last .1 .1 .1 .1 .0) (c .before .before .before .before .before .before .before .before .before .before .scales2 .given) (c .before .before .before .before .before .before .before .before .before .before .before .before .before .before .before .before .before .before .before .before .before .before .before .before .before .pre .1 .1 .scales)
+slice-aggregate-write-3 c = front-still _ _ _ (c .before .before .before .before .before .before .before .before .before .before .before .before .before .play .last .1 .1 .1 .1 .0) (c .before .before .before .before .before .before .before .before .before .before .before .before .before .play .kept .1 .1 .1 .1 .0) (c .before .before .before .before .before .before .before .before .before .before .before .before .before .before .before .before .before .before .before .before .before .before .before .before .before .pre .1 .1 .scales)
 
 array-share-prefix-lights : tie.Need-array-share-prefix-lights
-array-share-prefix-lights c = room-of _ _ _ (c .before .before .before .before .before .before .before .before .before .before .before .before .before .play .last .1 .1 .1 .1 .1 .0) (c .before .before .before .before .before .before .before .before .before .lights2 .given) (c .before .before .before .before .before .before .before .before .before .before .before .before .before .before .before .before .before .before .before .before .before .before .before .before .before .pre .1 .1 .lights)
+array-share-prefix-lights c = room-of _ _ _ (c .before .before .before .before .before .before .before .before .before .before .before .before .before .play .last .1 .1 .1 .1 .1 .0) (c .before .before .before .before .before .before .before .before .before .before .before .before .before .play .kept .1 .1 .1 .1 .1 .0) (c .before .before .before .before .before .before .before .before .before .before .before .before .before .before .before .before .before .before .before .before .before .before .before .before .before .pre .1 .1 .lights)
 
 slice-aggregate-write-4 : tie.Need-slice-aggregate-write-4
-slice-aggregate-write-4 c = front-still _ _ _ (c .before .before .before .before .before .before .before .before .before .before .before .before .before .before .play .last .1 .1 .1 .1 .1 .0) (c .before .before .before .before .before .before .before .before .before .before .lights2 .given) (c .before .before .before .before .before .before .before .before .before .before .before .before .before .before .before .before .before .before .before .before .before .before .before .before .before .before .pre .1 .1 .lights)
+slice-aggregate-write-4 c = front-still _ _ _ (c .before .before .before .before .before .before .before .before .before .before .before .before .before .before .play .last .1 .1 .1 .1 .1 .0) (c .before .before .before .before .before .before .before .before .before .before .before .before .before .before .play .kept .1 .1 .1 .1 .1 .0) (c .before .before .before .before .before .before .before .before .before .before .before .before .before .before .before .before .before .before .before .before .before .before .before .before .before .before .pre .1 .1 .lights)
 
 array-share-prefix-lookats : tie.Need-array-share-prefix-lookats
-array-share-prefix-lookats c = room-of _ _ _ (c .before .before .before .before .before .before .before .before .before .before .before .before .before .before .play .last .1 .1 .1 .1 .1 .1 .0) (c .before .before .before .before .before .before .before .before .before .lookats2 .given) (c .before .before .before .before .before .before .before .before .before .before .before .before .before .before .before .before .before .before .before .before .before .before .before .before .before .before .pre .1 .1 .lookats)
+array-share-prefix-lookats c = room-of _ _ _ (c .before .before .before .before .before .before .before .before .before .before .before .before .before .before .play .last .1 .1 .1 .1 .1 .1 .0) (c .before .before .before .before .before .before .before .before .before .before .before .before .before .before .play .kept .1 .1 .1 .1 .1 .1 .0) (c .before .before .before .before .before .before .before .before .before .before .before .before .before .before .before .before .before .before .before .before .before .before .before .before .before .before .pre .1 .1 .lookats)
 
 slice-aggregate-write-5 : tie.Need-slice-aggregate-write-5
-slice-aggregate-write-5 c = front-still _ _ _ (c .before .before .before .before .before .before .before .before .before .before .before .before .before .before .before .play .last .1 .1 .1 .1 .1 .1 .0) (c .before .before .before .before .before .before .before .before .before .before .lookats2 .given) (c .before .before .before .before .before .before .before .before .before .before .before .before .before .before .before .before .before .before .before .before .before .before .before .before .before .before .before .pre .1 .1 .lookats)
+slice-aggregate-write-5 c = front-still _ _ _ (c .before .before .before .before .before .before .before .before .before .before .before .before .before .before .before .play .last .1 .1 .1 .1 .1 .1 .0) (c .before .before .before .before .before .before .before .before .before .before .before .before .before .before .before .play .kept .1 .1 .1 .1 .1 .1 .0) (c .before .before .before .before .before .before .before .before .before .before .before .before .before .before .before .before .before .before .before .before .before .before .before .before .before .before .before .pre .1 .1 .lookats)
 
 array-share-prefix-fogs : tie.Need-array-share-prefix-fogs
-array-share-prefix-fogs c = room-of _ _ _ (c .before .before .before .before .before .before .before .before .before .before .before .before .before .before .before .play .last .1 .1 .1 .1 .1 .1 .1 .0) (c .before .before .before .before .before .before .before .before .before .fogs2 .given) (c .before .before .before .before .before .before .before .before .before .before .before .before .before .before .before .before .before .before .before .before .before .before .before .before .before .before .before .pre .1 .1 .fogs)
+array-share-prefix-fogs c = room-of _ _ _ (c .before .before .before .before .before .before .before .before .before .before .before .before .before .before .before .play .last .1 .1 .1 .1 .1 .1 .1 .0) (c .before .before .before .before .before .before .before .before .before .before .before .before .before .before .before .play .kept .1 .1 .1 .1 .1 .1 .1 .0) (c .before .before .before .before .before .before .before .before .before .before .before .before .before .before .before .before .before .before .before .before .before .before .before .before .before .before .before .pre .1 .1 .fogs)
 
 slice-aggregate-write-6 : tie.Need-slice-aggregate-write-6
-slice-aggregate-write-6 c = front-still _ _ _ (c .before .before .before .before .before .before .before .before .before .before .before .before .before .before .before .before .play .last .1 .1 .1 .1 .1 .1 .1 .0) (c .before .before .before .before .before .before .before .before .before .before .fogs2 .given) (c .before .before .before .before .before .before .before .before .before .before .before .before .before .before .before .before .before .before .before .before .before .before .before .before .before .before .before .before .pre .1 .1 .fogs)
+slice-aggregate-write-6 c = front-still _ _ _ (c .before .before .before .before .before .before .before .before .before .before .before .before .before .before .before .before .play .last .1 .1 .1 .1 .1 .1 .1 .0) (c .before .before .before .before .before .before .before .before .before .before .before .before .before .before .before .before .play .kept .1 .1 .1 .1 .1 .1 .1 .0) (c .before .before .before .before .before .before .before .before .before .before .before .before .before .before .before .before .before .before .before .before .before .before .before .before .before .before .before .before .pre .1 .1 .fogs)
 
 array-share-prefix-floats : tie.Need-array-share-prefix-floats
-array-share-prefix-floats c = room-of _ _ _ (c .before .before .before .before .before .before .before .before .before .before .before .before .before .before .before .before .play .last .1 .1 .1 .1 .1 .1 .1 .1 .0) (c .before .before .before .before .before .before .before .before .before .floats2 .given) (c .before .before .before .before .before .before .before .before .before .before .before .before .before .before .before .before .before .before .before .before .before .before .before .before .before .before .before .before .pre .1 .1 .floats)
+array-share-prefix-floats c = room-of _ _ _ (c .before .before .before .before .before .before .before .before .before .before .before .before .before .before .before .before .play .last .1 .1 .1 .1 .1 .1 .1 .1 .0) (c .before .before .before .before .before .before .before .before .before .before .before .before .before .before .before .before .play .kept .1 .1 .1 .1 .1 .1 .1 .1 .0) (c .before .before .before .before .before .before .before .before .before .before .before .before .before .before .before .before .before .before .before .before .before .before .before .before .before .before .before .before .pre .1 .1 .floats)
 
 slice-aggregate-write-7 : tie.Need-slice-aggregate-write-7
-slice-aggregate-write-7 c = front-still _ _ _ (c .before .before .before .before .before .before .before .before .before .before .before .before .before .before .before .before .before .play .last .1 .1 .1 .1 .1 .1 .1 .1 .0) (c .before .before .before .before .before .before .before .before .before .before .floats2 .given) (c .before .before .before .before .before .before .before .before .before .before .before .before .before .before .before .before .before .before .before .before .before .before .before .before .before .before .before .before .before .pre .1 .1 .floats)
+slice-aggregate-write-7 c = front-still _ _ _ (c .before .before .before .before .before .before .before .before .before .before .before .before .before .before .before .before .before .play .last .1 .1 .1 .1 .1 .1 .1 .1 .0) (c .before .before .before .before .before .before .before .before .before .before .before .before .before .before .before .before .before .play .kept .1 .1 .1 .1 .1 .1 .1 .1 .0) (c .before .before .before .before .before .before .before .before .before .before .before .before .before .before .before .before .before .before .before .before .before .before .before .before .before .before .before .before .before .pre .1 .1 .floats)
 
 array-share-prefix-words : tie.Need-array-share-prefix-words
-array-share-prefix-words c = room-of _ _ _ (c .before .before .before .before .before .before .before .before .before .before .before .before .before .before .before .before .before .play .last .1 .1 .1 .1 .1 .1 .1 .1 .1 .0) (c .before .before .before .before .before .before .before .before .before .words2 .given) (c .before .before .before .before .before .before .before .before .before .before .before .before .before .before .before .before .before .before .before .before .before .before .before .before .before .before .before .before .before .pre .1 .1 .words)
+array-share-prefix-words c = room-of _ _ _ (c .before .before .before .before .before .before .before .before .before .before .before .before .before .before .before .before .before .play .last .1 .1 .1 .1 .1 .1 .1 .1 .1 .0) (c .before .before .before .before .before .before .before .before .before .before .before .before .before .before .before .before .before .play .kept .1 .1 .1 .1 .1 .1 .1 .1 .1 .0) (c .before .before .before .before .before .before .before .before .before .before .before .before .before .before .before .before .before .before .before .before .before .before .before .before .before .before .before .before .before .pre .1 .1 .words)
 
 slice-aggregate-write-8 : tie.Need-slice-aggregate-write-8
-slice-aggregate-write-8 c = front-still _ _ _ (c .before .before .before .before .before .before .before .before .before .before .before .before .before .before .before .before .before .before .play .last .1 .1 .1 .1 .1 .1 .1 .1 .1 .0) (c .before .before .before .before .before .before .before .before .before .before .words2 .given) (c .before .before .before .before .before .before .before .before .before .before .before .before .before .before .before .before .before .before .before .before .before .before .before .before .before .before .before .before .before .before .pre .1 .1 .words)
+slice-aggregate-write-8 c = front-still _ _ _ (c .before .before .before .before .before .before .before .before .before .before .before .before .before .before .before .before .before .before .play .last .1 .1 .1 .1 .1 .1 .1 .1 .1 .0) (c .before .before .before .before .before .before .before .before .before .before .before .before .before .before .before .before .before .before .play .kept .1 .1 .1 .1 .1 .1 .1 .1 .1 .0) (c .before .before .before .before .before .before .before .before .before .before .before .before .before .before .before .before .before .before .before .before .before .before .before .before .before .before .before .before .before .before .pre .1 .1 .words)
 
 array-share-prefix-indices : tie.Need-array-share-prefix-indices
-array-share-prefix-indices c = room-of _ _ _ (c .before .before .before .before .before .before .before .before .before .before .before .before .before .before .before .before .before .before .play .last .1 .1 .1 .1 .1 .1 .1 .1 .1 .1 .0) (c .before .before .before .before .before .before .before .before .before .indices2 .given) (c .before .before .before .before .before .before .before .before .before .before .before .before .before .before .before .before .before .before .before .before .before .before .before .before .before .before .before .before .before .before .pre .1 .1 .indices)
+array-share-prefix-indices c = room-of _ _ _ (c .before .before .before .before .before .before .before .before .before .before .before .before .before .before .before .before .before .before .play .last .1 .1 .1 .1 .1 .1 .1 .1 .1 .1 .0) (c .before .before .before .before .before .before .before .before .before .before .before .before .before .before .before .before .before .before .play .kept .1 .1 .1 .1 .1 .1 .1 .1 .1 .1 .0) (c .before .before .before .before .before .before .before .before .before .before .before .before .before .before .before .before .before .before .before .before .before .before .before .before .before .before .before .before .before .before .pre .1 .1 .indices)
 
 slice-aggregate-write-9 : tie.Need-slice-aggregate-write-9
-slice-aggregate-write-9 c = front-still _ _ _ (c .before .before .before .before .before .before .before .before .before .before .before .before .before .before .before .before .before .before .before .play .last .1 .1 .1 .1 .1 .1 .1 .1 .1 .1 .0) (c .before .before .before .before .before .before .before .before .before .before .indices2 .given) (c .before .before .before .before .before .before .before .before .before .before .before .before .before .before .before .before .before .before .before .before .before .before .before .before .before .before .before .before .before .before .before .pre .1 .1 .indices)
+slice-aggregate-write-9 c = front-still _ _ _ (c .before .before .before .before .before .before .before .before .before .before .before .before .before .before .before .before .before .before .before .play .last .1 .1 .1 .1 .1 .1 .1 .1 .1 .1 .0) (c .before .before .before .before .before .before .before .before .before .before .before .before .before .before .before .before .before .before .before .play .kept .1 .1 .1 .1 .1 .1 .1 .1 .1 .1 .0) (c .before .before .before .before .before .before .before .before .before .before .before .before .before .before .before .before .before .before .before .before .before .before .before .before .before .before .before .before .before .before .before .pre .1 .1 .indices)
 
 array-share-prefix-runs : tie.Need-array-share-prefix-runs
-array-share-prefix-runs c = room-of _ _ _ (c .before .before .before .before .before .before .before .before .before .before .before .before .before .before .before .before .before .before .before .play .last .1 .1 .1 .1 .1 .1 .1 .1 .1 .1 .1 .0) (c .before .before .before .before .before .before .before .before .before .runs2 .given) (c .before .before .before .before .before .before .before .before .before .before .before .before .before .before .before .before .before .before .before .before .before .before .before .before .before .before .before .before .before .before .before .pre .1 .1 .runs)
+array-share-prefix-runs c = room-of _ _ _ (c .before .before .before .before .before .before .before .before .before .before .before .before .before .before .before .before .before .before .before .play .last .1 .1 .1 .1 .1 .1 .1 .1 .1 .1 .1 .0) (c .before .before .before .before .before .before .before .before .before .before .before .before .before .before .before .before .before .before .before .play .kept .1 .1 .1 .1 .1 .1 .1 .1 .1 .1 .1 .0) (c .before .before .before .before .before .before .before .before .before .before .before .before .before .before .before .before .before .before .before .before .before .before .before .before .before .before .before .before .before .before .before .pre .1 .1 .runs)
 
 slice-aggregate-write-10 : tie.Need-slice-aggregate-write-10
-slice-aggregate-write-10 c = front-still _ _ _ (c .before .before .before .before .before .before .before .before .before .before .before .before .before .before .before .before .before .before .before .before .play .last .1 .1 .1 .1 .1 .1 .1 .1 .1 .1 .1 .0) (c .before .before .before .before .before .before .before .before .before .before .runs2 .given) (c .before .before .before .before .before .before .before .before .before .before .before .before .before .before .before .before .before .before .before .before .before .before .before .before .before .before .before .before .before .before .before .before .pre .1 .1 .runs)
+slice-aggregate-write-10 c = front-still _ _ _ (c .before .before .before .before .before .before .before .before .before .before .before .before .before .before .before .before .before .before .before .before .play .last .1 .1 .1 .1 .1 .1 .1 .1 .1 .1 .1 .0) (c .before .before .before .before .before .before .before .before .before .before .before .before .before .before .before .before .before .before .before .before .play .kept .1 .1 .1 .1 .1 .1 .1 .1 .1 .1 .1 .0) (c .before .before .before .before .before .before .before .before .before .before .before .before .before .before .before .before .before .before .before .before .before .before .before .before .before .before .before .before .before .before .before .before .pre .1 .1 .runs)
 
 write-requires : tie.Need-write-requires
 write-requires c κs = tt

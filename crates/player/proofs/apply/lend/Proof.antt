@@ -1,39 +1,40 @@
 -- `player::apply::lend` meets its contract. Assumes nothing.
+use denote.Ref.{now}
 use Rattle.trace.proofs.Reading.{front}
+use Rattle.player.specs.Ops.{areasOf}
 use Rattle.player.proofs.Applied.{lend-is}
-use borrow.Author.Needs.{needs}
 use Rattle.player.proofs.apply.lend.Statement.{statement}
 use Rattle.player.proofs.apply.lend.Tie as tie
 
 within-requires : tie.Need-within-requires
-within-requires c κs = search needs
+within-requires c κs = tt
 
 within-requires-2 : tie.Need-within-requires-2
-within-requires-2 c κs = search needs
+within-requires-2 c κs = tt
 
 within-requires-3 : tie.Need-within-requires-3
-within-requires-3 c κs = search needs
+within-requires-3 c κs = tt
 
 within-requires-4 : tie.Need-within-requires-4
-within-requires-4 c κs = search needs
+within-requires-4 c κs = tt
 
 within-requires-5 : tie.Need-within-requires-5
-within-requires-5 c κs = search needs
+within-requires-5 c κs = tt
 
 within-requires-6 : tie.Need-within-requires-6
-within-requires-6 c κs = search needs
+within-requires-6 c κs = tt
 
 within-requires-7 : tie.Need-within-requires-7
-within-requires-7 c κs = search needs
+within-requires-7 c κs = tt
 
 within-requires-8 : tie.Need-within-requires-8
-within-requires-8 c κs = search needs
+within-requires-8 c κs = tt
 
 within-requires-9 : tie.Need-within-requires-9
-within-requires-9 c κs = search needs
+within-requires-9 c κs = tt
 
 within-requires-10 : tie.Need-within-requires-10
-within-requires-10 c κs = search needs
+within-requires-10 c κs = tt
 
 slice-relend-prefix-apply : tie.Need-slice-relend-prefix-apply
 slice-relend-prefix-apply c = c .before .before .before .before .before .before .before .before .before .within .ensures .0
@@ -96,7 +97,7 @@ slice-aggregate-apply-10 : tie.Need-slice-aggregate-apply-10
 slice-aggregate-apply-10 c = front _ _ (c .before .before .before .before .before .before .before .before .before .before .within10 .ensures .0)
 
 apply-requires : tie.Need-apply-requires
-apply-requires c κs = search needs
+apply-requires c κs = tt
 
 same-length : tie.Need-same-length
 same-length c = c .before .before .before .before .before .before .before .before .before .before .before .before .before .before .before .before .before .before .matrices .given .1
@@ -141,7 +142,12 @@ returns c =
     let at-within3 = c .before .before .before .before .before .before .before .before .before .before .before .before .before .before .before .before .before .before .before .before .before .before .before .before .before .before .before .before .before .before .before .before .before .before .before .before .before .within3 in
     let at-within2 = c .before .before .before .before .before .before .before .before .before .before .before .before .before .before .before .before .before .before .before .before .before .before .before .before .before .before .before .before .before .before .before .before .before .before .before .before .before .before .within2 in
     let at-within = c .before .before .before .before .before .before .before .before .before .before .before .before .before .before .before .before .before .before .before .before .before .before .before .before .before .before .before .before .before .before .before .before .before .before .before .before .before .before .before .within in
-    lend-is _ _ _ (at-apply .result) _ _ _ _ (λ i. record { matrices = at-within .ensures .1 i; viewports = at-within2 .ensures .1 i; scales = at-within3 .ensures .1 i; lights = at-within4 .ensures .1 i; lookats = at-within5 .ensures .1 i; fogs = at-within6 .ensures .1 i; floats = at-within7 .ensures .1 i; words = at-within8 .ensures .1 i; indices = at-within9 .ensures .1 i; runs = at-within10 .ensures .1 i }) (at-apply .ensures)
+    let a = c .before .before .before .before .before .before .before .before .before .before .before .before .before .before .before .before .before .before .before .before .before .before .before .before .before .before .before .before .before .before .before .before .before .before .before .before .before .before .before .before .before .before .before .before .before .before .before .before .before .before .args in
+    let e = at-apply .last .1 .1 .1 in
+    lend-is (a .c) (now (a .«data»)) (a .state) (at-apply .result) (a .lent) _
+    (areasOf (now (a .matrices)) (now (a .viewports)) (now (a .scales)) (now (a .lights)) (now (a .lookats)) (now (a .fogs)) (now (a .floats)) (now (a .words)) (now (a .indices)) (now (a .runs)))
+    (areasOf (e .0) (e .1 .0) (e .1 .1 .0) (e .1 .1 .1 .0) (e .1 .1 .1 .1 .0) (e .1 .1 .1 .1 .1 .0) (e .1 .1 .1 .1 .1 .1 .0) (e .1 .1 .1 .1 .1 .1 .1 .0) (e .1 .1 .1 .1 .1 .1 .1 .1 .0) (e .1 .1 .1 .1 .1 .1 .1 .1 .1 .0))
+    (λ i. record { matrices = at-within .ensures .1 i; viewports = at-within2 .ensures .1 i; scales = at-within3 .ensures .1 i; lights = at-within4 .ensures .1 i; lookats = at-within5 .ensures .1 i; fogs = at-within6 .ensures .1 i; floats = at-within7 .ensures .1 i; words = at-within8 .ensures .1 i; indices = at-within9 .ensures .1 i; runs = at-within10 .ensures .1 i }) (at-apply .ensures)
 
 pub lend-spec : {M : Type 1} → statement M
 lend-spec =
