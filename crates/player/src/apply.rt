@@ -6,7 +6,7 @@ ghost use lib.Dec.{eqb};
 ghost use Rattle.stage.specs.Opening.{blank};
 ghost use Rattle.stage.specs.Plan.{outcome, carry, nothing};
 ghost use Rattle.stage.specs.Lights.{texturePlan, microcodePlan};
-ghost use Rattle.player.specs.Ops.{microcodeOf, SetAre, TurnAre, applyBy, areasOf, lendBy, stepBy};
+ghost use Rattle.player.specs.Ops.{microcodeOf, SetAre, TurnAre, applyBy, areasOf, stepBy};
 ghost use Rattle.numbers.specs.Ratio.{signed as Ratio·signed};
 use crate::act;
 use stage::Answer;
@@ -150,52 +150,6 @@ fn apply(
     }
 }
 
-// The same, with so much lent of each area.
-fn lend(
-    state: State,
-    c: Call,
-    data: &[u8],
-    lent: Lengths,
-    matrices: &mut [f32],
-    viewports: &mut [f32],
-    scales: &mut [f32],
-    lights: &mut [f32],
-    lookats: &mut [f32],
-    fogs: &mut [i16],
-    floats: &mut [f32],
-    words: &mut [u32],
-    indices: &mut [u32],
-    runs: &mut [u32],
-) -> Answered
-    ensures { λ r. ⌜ outcome r (areasOf (now (matrices .exit)) (now (viewports .exit)) (now (scales .exit)) (now (lights .exit)) (now (lookats .exit)) (now (fogs .exit)) (now (floats .exit)) (now (words .exit)) (now (indices .exit)) (now (runs .exit))) ≡ lendBy c (now («data» .entry)) lent (record { state = state; areas = areasOf (now (matrices .entry)) (now (viewports .entry)) (now (scales .entry)) (now (lights .entry)) (now (lookats .entry)) (now (fogs .entry)) (now (floats .entry)) (now (words .entry)) (now (indices .entry)) (now (runs .entry)) }) ⌝ }
-{
-    let n0 = within(lent.matrices, matrices.len());
-    let n1 = within(lent.viewports, viewports.len());
-    let n2 = within(lent.scales, scales.len());
-    let n3 = within(lent.lights, lights.len());
-    let n4 = within(lent.lookats, lookats.len());
-    let n5 = within(lent.fogs, fogs.len());
-    let n6 = within(lent.floats, floats.len());
-    let n7 = within(lent.words, words.len());
-    let n8 = within(lent.indices, indices.len());
-    let n9 = within(lent.runs, runs.len());
-    apply(
-        state,
-        c,
-        data,
-        &mut matrices[..n0],
-        &mut viewports[..n1],
-        &mut scales[..n2],
-        &mut lights[..n3],
-        &mut lookats[..n4],
-        &mut fogs[..n5],
-        &mut floats[..n6],
-        &mut words[..n7],
-        &mut indices[..n8],
-        &mut runs[..n9],
-    )
-}
-
 // The op c with its data, over the areas, of which so much is lent; `write` reaches all of them.
 pub fn step(
     state: State,
@@ -215,21 +169,30 @@ pub fn step(
 ) -> Answered
     ensures { λ r. ⌜ outcome r (areasOf (now (matrices .exit)) (now (viewports .exit)) (now (scales .exit)) (now (lights .exit)) (now (lookats .exit)) (now (fogs .exit)) (now (floats .exit)) (now (words .exit)) (now (indices .exit)) (now (runs .exit))) ≡ stepBy c (now («data» .entry)) lent (record { state = state; areas = areasOf (now (matrices .entry)) (now (viewports .entry)) (now (scales .entry)) (now (lights .entry)) (now (lookats .entry)) (now (fogs .entry)) (now (floats .entry)) (now (words .entry)) (now (indices .entry)) (now (runs .entry)) }) ⌝ }
 {
-    let r = lend(
+    let n0 = within(lent.matrices, matrices.len());
+    let n1 = within(lent.viewports, viewports.len());
+    let n2 = within(lent.scales, scales.len());
+    let n3 = within(lent.lights, lights.len());
+    let n4 = within(lent.lookats, lookats.len());
+    let n5 = within(lent.fogs, fogs.len());
+    let n6 = within(lent.floats, floats.len());
+    let n7 = within(lent.words, words.len());
+    let n8 = within(lent.indices, indices.len());
+    let n9 = within(lent.runs, runs.len());
+    let r = apply(
         state,
         c,
         data,
-        lent,
-        matrices,
-        viewports,
-        scales,
-        lights,
-        lookats,
-        fogs,
-        floats,
-        words,
-        indices,
-        runs,
+        &mut matrices[..n0],
+        &mut viewports[..n1],
+        &mut scales[..n2],
+        &mut lights[..n3],
+        &mut lookats[..n4],
+        &mut fogs[..n5],
+        &mut floats[..n6],
+        &mut words[..n7],
+        &mut indices[..n8],
+        &mut runs[..n9],
     );
     act::write(c, fogs, words, indices, runs);
     r

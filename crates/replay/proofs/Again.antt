@@ -1,6 +1,10 @@
--- What the loop keeps from one op to the next. Assumes nothing.
-use mathlib.Core.Path.{_≡_, _∙_}
-use lib.ListN.{length}
+-- What the loop keeps from one op to the next, and what the areas keep. Assumes nothing.
+use mathlib.Core.Path.{_≡_, _∙_, sym, subst}
+use mathlib.Core.List.{List, _++_}
+use Prim.Native.Nat.{ℕ, _≤_}
+use native.Mathlib.Omega.{arith}
+use lib.ListN.{length, length-append, length-replicate, replicate, take, drop}
+use lib.Seq.{length-take-le}
 use Rattle.sequence.specs.Sequence.{Areas, Alike}
 
 -- each area as long as before, in the form in which a call with ten areas hands it back
@@ -33,3 +37,16 @@ still-alike x l l₀ k a =
       indices = k .1 .1 .1 .1 .1 .1 .1 .1 .0 ∙ a .indices;
       runs = k .1 .1 .1 .1 .1 .1 .1 .1 .1 .0 ∙ a .runs;
     }
+
+-- ---- the front of an area of k numbers v
+
+module _ {A : Type 0} (n k : ℕ) (v : A) where
+  pub front-of : n ≤ k → n ≡ length (take n (replicate k v))
+  front-of h = sym (length-take-le n (replicate k v) (subst (λ (m : ℕ). n ≤ m) (sym (length-replicate k v)) h))
+
+  -- with x for it, as long as it was, the area still has so many numbers
+  pub room-of : (x : List A) → length x ≡ length (take n (replicate k v)) → n ≤ k → n ≤ length (x ++ drop n (replicate k v))
+  room-of x e h = omega (arith, length-append x (drop n (replicate k v)), e, front-of h)
+
+  pub front-still : (x : List A) → length x ≡ length (take n (replicate k v)) → n ≤ k → n ≡ length (take n (x ++ drop n (replicate k v)))
+  front-still x e h = sym (length-take-le n (x ++ drop n (replicate k v)) (room-of x e h))

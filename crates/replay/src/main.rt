@@ -64,53 +64,7 @@ fn play(
     g.state
 }
 
-// Runs the script over the areas, and dumps what is left.
-fn run(
-    s: &[u8],
-    own: Lengths,
-    matrices: &mut [f32],
-    viewports: &mut [f32],
-    scales: &mut [f32],
-    lights: &mut [f32],
-    lookats: &mut [f32],
-    fogs: &mut [i16],
-    floats: &mut [f32],
-    words: &mut [u32],
-    indices: &mut [u32],
-    runs: &mut [u32],
-)
-    requires { ⌜ (44 ≤ length (now s)) × (length (now s) ≤ 262144) ⌝ }
-{
-    let state = play(
-        s,
-        own,
-        matrices,
-        viewports,
-        scales,
-        lights,
-        lookats,
-        fogs,
-        floats,
-        words,
-        indices,
-        runs,
-    );
-    dump::dump::write(
-        state,
-        matrices,
-        viewports,
-        scales,
-        lights,
-        lookats,
-        fogs,
-        floats,
-        words,
-        indices,
-        runs,
-    );
-}
-
-// Makes the areas, each number 7, and runs the script over them.
+// Makes the areas, each number 7, runs the script over them, and dumps what is left.
 fn replay(s: &[u8], own: Lengths)
     requires { ⌜ (44 ≤ length (now s)) × ((length (now s) ≤ 262144) × Within own) ⌝ }
 {
@@ -134,7 +88,7 @@ fn replay(s: &[u8], own: Lengths)
     let n7 = own.words;
     let n8 = own.indices;
     let n9 = own.runs;
-    run(
+    let state = play(
         s,
         own,
         &mut matrices[..n0],
@@ -147,6 +101,19 @@ fn replay(s: &[u8], own: Lengths)
         &mut words[..n7],
         &mut indices[..n8],
         &mut runs[..n9],
+    );
+    dump::dump::write(
+        state,
+        &matrices[..n0],
+        &viewports[..n1],
+        &scales[..n2],
+        &lights[..n3],
+        &lookats[..n4],
+        &fogs[..n5],
+        &floats[..n6],
+        &words[..n7],
+        &indices[..n8],
+        &runs[..n9],
     );
 }
 

@@ -7,7 +7,7 @@ use mathlib.Core.Path.{refl, ap, _∙_}
 use mathlib.Core.Logic.{⊎-elim}
 use borrow.Author.Tests.{not-true, not-false}
 use Rattle.stage.specs.declared.State.{State}
-use Rattle.sequence.specs.Sequence.{Alike}
+use Rattle.sequence.specs.Sequence.{Areas, Port, Alike}
 use Rattle.trace.specs.declared.ops.Shape.{Shape}
 use Rattle.trace.specs.Script.{callAt}
 use Rattle.player.specs.Ops.{areasOf}
@@ -41,6 +41,31 @@ tested c = c .before .before .before
 
 abbrev start : tie.At-loop Inv-loop μ-loop → tie.Start Inv-loop μ-loop
 start c = c .before .before .before .before .before .before .before .before .before .before .before .before
+
+-- ---- the areas and what they are to come to, by name: left to be found they cost most of this proof
+
+abbrev areas-at : tie.At-loop Inv-loop μ-loop → Areas
+areas-at o =
+    let v = o .loop in
+    areasOf (v .matrices) (v .viewports) (v .scales) (v .lights) (v .lookats) (v .fogs) (v .floats) (v .words) (v .indices) (v .runs)
+
+abbrev port-at : tie.At-loop Inv-loop μ-loop → Port
+port-at o = portOf (o .loop .g .state) (areas-at o)
+
+abbrev areas-first : tie.At-loop Inv-loop μ-loop → Areas
+areas-first o =
+    let a = start o .args in
+    areasOf (now (a .matrices)) (now (a .viewports)) (now (a .scales)) (now (a .lights)) (now (a .lookats)) (now (a .fogs)) (now (a .floats)) (now (a .words)) (now (a .indices)) (now (a .runs))
+
+abbrev areas-next : tie.After-step Inv-loop μ-loop → Areas
+areas-next x =
+    let e = x .step .last .1 .1 .1 .1 in
+    areasOf (e .0) (e .1 .0) (e .1 .1 .0) (e .1 .1 .1 .0) (e .1 .1 .1 .1 .0) (e .1 .1 .1 .1 .1 .0) (e .1 .1 .1 .1 .1 .1 .0) (e .1 .1 .1 .1 .1 .1 .1 .0) (e .1 .1 .1 .1 .1 .1 .1 .1 .0) (e .1 .1 .1 .1 .1 .1 .1 .1 .1 .0)
+
+abbrev comes-to : tie.At-loop Inv-loop μ-loop → State → Port
+comes-to o g =
+    let a = start o .args in
+    playFrom (length (now (a .s))) (now (a .s)) 44 (a .own) (portOf g (areas-first o))
 
 -- ---- the needs
 
@@ -96,8 +121,8 @@ loop-again c =
     let o = tested k .before in
     let v = o .loop .inv in
     let e = k .call-at .ensures .0 ∙ ap (λ (h : Shape). callAt h (now (start o .args .s)) (o .loop .at)) (k .before .shape-of .ensures) in
-    let l = left-behind _ _ _ _ _ _ (x .step .result) _ _ (tested k .loop-test .taken) e (not-false _ (w .if1 .left)) (k .call-at .ensures .1 .past) (x .step .ensures) (c .before .before .lent-after .ensures) (v .1 .1 .0) in
-    (k .call-at .ensures .1 .inside, (omega (arith, k .call-at .ensures .1 .past, v .1 .0), (l, still-alike _ _ _ (x .step .kept .1 .1 .1 .1) (v .1 .1 .1))))
+    let l = left-behind (now (start o .args .s)) (o .loop .at) (o .loop .lent) (port-at o) (comes-to o (o .before .unopened .result .state)) (k .call-at .result) (x .step .result) (c .before .before .lent-after .result) (areas-next x) (tested k .loop-test .taken) e (not-false _ (w .if1 .left)) (k .call-at .ensures .1 .past) (x .step .ensures) (c .before .before .lent-after .ensures) (v .1 .1 .0) in
+    (k .call-at .ensures .1 .inside, (omega (arith, k .call-at .ensures .1 .past, v .1 .0), (l, still-alike (areas-next x) (areas-at o) (areas-first o) (x .step .kept .1 .1 .1 .1) (v .1 .1 .1))))
 
 same-length : tie.Need-same-length Inv-loop μ-loop
 same-length c = c .before .before .loop .inv .1 .1 .1 .matrices
@@ -131,13 +156,17 @@ same-length-10 c = c .before .before .loop .inv .1 .1 .1 .runs
 
 returns : tie.Need-returns Inv-loop μ-loop
 returns c =
-    let l = c .before .before .loop in
-    let a = start (c .before .before) .args in
-    ⊎-elim
-    (λ h. ended _ _ _ _ _ (h .left) (l .inv .1 .1 .0))
-    (λ h. cut _ _ _ _ _ _ (h .3 .ensures .0 ∙ ap (λ (x : Shape). callAt x _ _) (h .2 .ensures)) (not-true _ (h .5 .taken)) (l .inv .1 .1 .0))
-    (c .before .loop-test .came)
-    ∙ ap (λ (x : State). playFrom (length (now (a .s))) (now (a .s)) 44 (a .own) (portOf x (areasOf (now (a .matrices)) (now (a .viewports)) (now (a .scales)) (now (a .lights)) (now (a .lookats)) (now (a .fogs)) (now (a .floats)) (now (a .words)) (now (a .indices)) (now (a .runs))))) (c .before .before .before .unopened .ensures)
+    let o = c .before .before in
+    let l = o .loop in
+    let s = now (start o .args .s) in
+    let g = o .before .unopened in
+    _∙_
+    {b = comes-to o (g .result .state)}
+    (⊎-elim
+    (λ h. ended s (l .at) (l .lent) (port-at o) (comes-to o (g .result .state)) (h .left) (l .inv .1 .1 .0))
+    (λ h. cut s (l .at) (l .lent) (port-at o) (comes-to o (g .result .state)) (h .3 .result) (h .3 .ensures .0 ∙ ap (λ (x : Shape). callAt x s (l .at)) (h .2 .ensures)) (not-true _ (h .5 .taken)) (l .inv .1 .1 .0))
+    (c .before .loop-test .came))
+    (ap (comes-to o) (g .ensures))
 
 pub play-spec : {M : Type 1} → statement M
 play-spec =

@@ -10,7 +10,7 @@ cast-with-length : tie.Need-cast-with-length
 cast-with-length c = search needs
 
 with-length-requires : tie.Need-with-length-requires
-with-length-requires c κs = search needs
+with-length-requires c κs = tt
 
 returns : tie.Need-returns
 unfolding lentAfter pick

@@ -10,34 +10,34 @@ cast-at : tie.Need-cast-at
 cast-at c = search needs
 
 half-requires : tie.Need-half-requires
-half-requires c κs = search needs
+half-requires c κs = tt
 
 signed-half-requires : tie.Need-signed-half-requires
-signed-half-requires c κs = search needs
+signed-half-requires c κs = tt
 
 writes-to-requires : tie.Need-writes-to-requires
-writes-to-requires c κs = search needs
+writes-to-requires c κs = tt
 
 write-half-requires : tie.Need-write-half-requires
-write-half-requires c κs = search needs
+write-half-requires c κs = tt
 
 writes-to-requires-2 : tie.Need-writes-to-requires-2
-writes-to-requires-2 c κs = search needs
+writes-to-requires-2 c κs = tt
 
 write-word-requires : tie.Need-write-word-requires
-write-word-requires c κs = search needs
+write-word-requires c κs = tt
 
 writes-to-requires-3 : tie.Need-writes-to-requires-3
-writes-to-requires-3 c κs = search needs
+writes-to-requires-3 c κs = tt
 
 write-word-requires-2 : tie.Need-write-word-requires-2
-write-word-requires-2 c κs = search needs
+write-word-requires-2 c κs = tt
 
 writes-to-requires-4 : tie.Need-writes-to-requires-4
-writes-to-requires-4 c κs = search needs
+writes-to-requires-4 c κs = tt
 
 write-word-requires-3 : tie.Need-write-word-requires-3
-write-word-requires-3 c κs = search needs
+write-word-requires-3 c κs = tt
 
 same-length : tie.Need-same-length
 same-length c = search needs

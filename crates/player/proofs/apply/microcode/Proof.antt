@@ -1,16 +1,15 @@
 -- `player::apply::microcode` meets its contract. Assumes nothing.
 use mathlib.Core.Path.{_∙_}
 use borrow.Author.Tests.{ne-eqb}
-use borrow.Author.Needs.{needs}
 use Rattle.numbers.specs.Choice.{pick}
 use Rattle.player.proofs.apply.microcode.Statement.{statement}
 use Rattle.player.proofs.apply.microcode.Tie as tie
 
 switch-microcode-requires : tie.Need-switch-microcode-requires
-switch-microcode-requires c κs = search needs
+switch-microcode-requires c κs = tt
 
 switch-microcode-requires-2 : tie.Need-switch-microcode-requires-2
-switch-microcode-requires-2 c κs = search needs
+switch-microcode-requires-2 c κs = tt
 
 returns : tie.Need-returns
 unfolding pick

@@ -1,46 +1,45 @@
 -- `player::apply::set` meets its contract. Assumes nothing.
 use mir.Syntax.{w16}
 use Rattle.layout.proofs.Signed.{handed}
-use borrow.Author.Needs.{needs}
 use Rattle.player.proofs.apply.set.Statement.{statement}
 use Rattle.player.proofs.apply.set.Tie as tie
 use Rattle.player.proofs.Applied.{set-geometry, set-texture, set-fog, set-number, set-light, set-lookat, set-cull, set-depth, set-microcode, set-poked, set-rest}
 
 modify-geometry-mode-requires : tie.Need-modify-geometry-mode-requires
-modify-geometry-mode-requires c κs = search needs
+modify-geometry-mode-requires c κs = tt
 
 texture-requires : tie.Need-texture-requires
-texture-requires c κs = search needs
+texture-requires c κs = tt
 
 signed-requires : tie.Need-signed-requires
-signed-requires c κs = search needs
+signed-requires c κs = tt
 
 signed-requires-2 : tie.Need-signed-requires-2
-signed-requires-2 c κs = search needs
+signed-requires-2 c κs = tt
 
 set-fog-requires : tie.Need-set-fog-requires
-set-fog-requires c κs = search needs
+set-fog-requires c κs = tt
 
 set-num-lights-requires : tie.Need-set-num-lights-requires
-set-num-lights-requires c κs = search needs
+set-num-lights-requires c κs = tt
 
 set-light-requires : tie.Need-set-light-requires
-set-light-requires c κs = search needs
+set-light-requires c κs = tt
 
 set-lookat-requires : tie.Need-set-lookat-requires
-set-lookat-requires c κs = search needs
+set-lookat-requires c κs = tt
 
 cull-display-list-requires : tie.Need-cull-display-list-requires
-cull-display-list-requires c κs = search needs
+cull-display-list-requires c κs = tt
 
 branch-z-requires : tie.Need-branch-z-requires
-branch-z-requires c κs = search needs
+branch-z-requires c κs = tt
 
 microcode-requires : tie.Need-microcode-requires
-microcode-requires c κs = search needs
+microcode-requires c κs = tt
 
 poked-requires : tie.Need-poked-requires
-poked-requires c κs = search needs
+poked-requires c κs = tt
 
 returns : tie.Need-returns
 returns c = set-geometry _ _ _ (c .modify-geometry-mode .result) (c .before .match .keys1) (c .modify-geometry-mode .ensures)

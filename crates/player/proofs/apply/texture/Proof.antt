@@ -1,23 +1,22 @@
 -- `player::apply::texture` meets its contract. Assumes nothing.
 use mathlib.Core.Path.{_∙_}
-use borrow.Author.Needs.{needs}
 use Rattle.player.proofs.apply.texture.Statement.{statement}
 use Rattle.player.proofs.apply.texture.Tie as tie
 
 octet-requires : tie.Need-octet-requires
-octet-requires c κs = search needs
+octet-requires c κs = tt
 
 octet-requires-2 : tie.Need-octet-requires-2
-octet-requires-2 c κs = search needs
+octet-requires-2 c κs = tt
 
 half-requires : tie.Need-half-requires
-half-requires c κs = search needs
+half-requires c κs = tt
 
 half-requires-2 : tie.Need-half-requires-2
-half-requires-2 c κs = search needs
+half-requires-2 c κs = tt
 
 set-texture-requires : tie.Need-set-texture-requires
-set-texture-requires c κs = search needs
+set-texture-requires c κs = tt
 
 returns : tie.Need-returns
 returns c =

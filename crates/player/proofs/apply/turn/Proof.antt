@@ -5,25 +5,25 @@ use Rattle.player.proofs.apply.turn.Tie as tie
 use Rattle.player.proofs.Applied.{turn-open, turn-matrix, turn-force, turn-pop, turn-viewport, turn-rest}
 
 opening-requires : tie.Need-opening-requires
-opening-requires c κs = search needs
+opening-requires c κs = tt
 
 octet-requires : tie.Need-octet-requires
-octet-requires c κs = search needs
+octet-requires c κs = tt
 
 matrix-requires : tie.Need-matrix-requires
-matrix-requires c κs = search needs
+matrix-requires c κs = tt
 
 force-matrix-requires : tie.Need-force-matrix-requires
-force-matrix-requires c κs = search needs
+force-matrix-requires c κs = tt
 
 pop-matrix-requires : tie.Need-pop-matrix-requires
-pop-matrix-requires c κs = search needs
+pop-matrix-requires c κs = tt
 
 set-viewport-requires : tie.Need-set-viewport-requires
-set-viewport-requires c κs = search needs
+set-viewport-requires c κs = tt
 
 set-requires : tie.Need-set-requires
-set-requires c κs = search needs
+set-requires c κs = tt
 
 same-length : tie.Need-same-length
 same-length c = search needs
