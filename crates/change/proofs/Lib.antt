@@ -2,4 +2,3 @@ pub mod Accepted
 pub mod Inks
 pub mod Kept
 pub mod Storing
-pub mod Fields

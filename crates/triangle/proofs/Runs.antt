@@ -1,6 +1,6 @@
 -- A run in an area, number by number. Assumes nothing.
 use mathlib.Core.Path.{_≡_, refl, _∙_}
-use Prim.Native.Nat.{ℕ, suc, _+_, _-_, _*_, _/_, _^_, _≤_, _<_}
+use Prim.Native.Nat.{ℕ, suc, _+_, _-_, _*_, _/_, _≤_, _<_}
 use native.Mathlib.Omega.{arith}
 use mathlib.Core.Bool.{true, false, not, _&&_, and-assoc, and-true, and-eq-true-iff}
 use mathlib.Core.List.{List, [], _∷_, _++_}
@@ -8,53 +8,35 @@ use lib.Dec.{eqb, leb}
 use borrow.Author.Tests.{leb-true, not-true, not-false}
 use lib.ListN.{length, getD, set, take, length-set}
 use lib.Seq.{drop-cons, take-all}
-use mir.Syntax.{w64}
-use mir.Val.{Fits}
 use Rattle.numbers.specs.Choice.{pick}
 use Rattle.areas.specs.Area.{part, put, matches}
 use Rattle.areas.specs.Widths.{runWidth, settingsWide}
+use Rattle.areas.proofs.Fields.{field-in}
 use Rattle.triangle.specs.declared.run.Last.{Last}
 use Rattle.triangle.specs.Steps.{seen, none, lastOf}
 
--- a whole run at a place of n numbers: each of its numbers lies inside, and its place is an address
-module _ (at n : ℕ) (h : at + runWidth ≤ n) where
-  pub first-in : at < n
-  first-in = omega arith
-
-  pub first-bytes : n * 4 < 2 ^ 63 → Fits w64 (at * 4)
-  first-bytes r = record { fits = omega arith }
-
-  pub field-in : (k : ℕ) → leb k 7 ≡ true → at + k < n
-  field-in k e = omega (arith, leb-true k 7 e)
-
-  pub field-fits : n * 4 < 2 ^ 63 → (k : ℕ) → leb k 7 ≡ true → Fits w64 (at + k)
-  field-fits r k e = record { fits = omega (arith, leb-true k 7 e) }
-
-  pub field-bytes : n * 4 < 2 ^ 63 → (k : ℕ) → leb k 7 ≡ true → Fits w64 ((at + k) * 4)
-  field-bytes r k e = record { fits = omega (arith, leb-true k 7 e) }
-
--- and stays inside while the numbers before it are stored
+-- a whole run at a place: each of its numbers lies inside, and stays there while the numbers before it are stored
 module _ (l : List ℕ) (at : ℕ) (w : at + runWidth ≤ length l) where
   pub second-in : (a : ℕ) → at + 1 < length (set l at a)
-  second-in a = simp length-set (field-in at (length l) w 1 refl)
+  second-in a = simp length-set (field-in at (length l) runWidth w 1 refl)
 
   pub third-in : (a b : ℕ) → at + 2 < length (set (set l at a) (at + 1) b)
-  third-in a b = simp length-set (field-in at (length l) w 2 refl)
+  third-in a b = simp length-set (field-in at (length l) runWidth w 2 refl)
 
   pub fourth-in : (a b c : ℕ) → at + 3 < length (set (set (set l at a) (at + 1) b) (at + 2) c)
-  fourth-in a b c = simp length-set (field-in at (length l) w 3 refl)
+  fourth-in a b c = simp length-set (field-in at (length l) runWidth w 3 refl)
 
   pub fifth-in : (a b c d : ℕ) → at + 4 < length (set (set (set (set l at a) (at + 1) b) (at + 2) c) (at + 3) d)
-  fifth-in a b c d = simp length-set (field-in at (length l) w 4 refl)
+  fifth-in a b c d = simp length-set (field-in at (length l) runWidth w 4 refl)
 
   pub sixth-in : (a b c d e : ℕ) → at + 5 < length (set (set (set (set (set l at a) (at + 1) b) (at + 2) c) (at + 3) d) (at + 4) e)
-  sixth-in a b c d e = simp length-set (field-in at (length l) w 5 refl)
+  sixth-in a b c d e = simp length-set (field-in at (length l) runWidth w 5 refl)
 
   pub seventh-in : (a b c d e f : ℕ) → at + 6 < length (set (set (set (set (set (set l at a) (at + 1) b) (at + 2) c) (at + 3) d) (at + 4) e) (at + 5) f)
-  seventh-in a b c d e f = simp length-set (field-in at (length l) w 6 refl)
+  seventh-in a b c d e f = simp length-set (field-in at (length l) runWidth w 6 refl)
 
   pub eighth-in : (a b c d e f g : ℕ) → at + 7 < length (set (set (set (set (set (set (set l at a) (at + 1) b) (at + 2) c) (at + 3) d) (at + 4) e) (at + 5) f) (at + 6) g)
-  eighth-in a b c d e f g = simp length-set (field-in at (length l) w 7 refl)
+  eighth-in a b c d e f g = simp length-set (field-in at (length l) runWidth w 7 refl)
 
   pub eight-long : (a b c d e f g h : ℕ) → length (set (set (set (set (set (set (set (set l at a) (at + 1) b) (at + 2) c) (at + 3) d) (at + 4) e) (at + 5) f) (at + 6) g) (at + 7) h) ≡ length l
   eight-long a b c d e f g h = simp length-set refl

@@ -5,7 +5,7 @@ use native.Mathlib.Omega.{arith}
 use Rattle.areas.specs.Widths.{floatWidth, sFloat, tFloat, screenX, screenY, screenZ}
 use Rattle.change.specs.Decoded.{floatsAfter}
 use Rattle.change.proofs.Storing.{unstored, stored}
-use Rattle.change.proofs.Fields.{field-in, field-fits, field-bytes}
+use Rattle.areas.proofs.Fields.{field-in, field-fits, field-bytes}
 use borrow.Author.Needs.{needs}
 use Rattle.change.proofs.remake.change_floats.Statement.{statement}
 use Rattle.change.proofs.remake.change_floats.Tie as tie

@@ -7,7 +7,7 @@ use native.Mathlib.Omega.{arith}
 use Rattle.areas.specs.Widths.{wordWidth, scaleWord, colourWord, lightWord, lightsWord, texgenWord, fogWord, lookatWord}
 use Rattle.change.specs.Decoded.{wordsAfter}
 use Rattle.change.proofs.Storing.{unstored, stored, first}
-use Rattle.change.proofs.Fields.{first-in, first-bytes, field-in, field-fits, field-bytes}
+use Rattle.areas.proofs.Fields.{first-in, first-bytes, field-in, field-fits, field-bytes}
 use borrow.Author.Needs.{needs}
 use Rattle.change.proofs.remake.change_words.Statement.{statement}
 use Rattle.change.proofs.remake.change_words.Tie as tie
