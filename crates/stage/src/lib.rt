@@ -64,11 +64,11 @@ pub struct State {
     pub defined: bool,
     pub geometry: u32,
     pub texture: Texture,
+    pub lights: Lights,
+    pub lookat: Lookat,
     pub viewport: [f32; 6],
     pub projection: [f32; 16],
     pub combined: [f32; 16],
-    pub lights: Lights,
-    pub lookat: Lookat,
     // The slots: whether each was loaded since opening, is loaded, has a clip code, its clip code, and whether it has a
     // screen z; and below, whether it was drawn since its row was made, its row, and its screen z.
     pub ever: [bool; 256],
