@@ -1,10 +1,18 @@
 -- What is known of a change that the judge lets through. Assumes nothing.
-use Prim.Native.Nat.{ℕ, _+_, _≤_, _<_}
+use Prim.Native.Nat.{ℕ, _+_, _-_, _*_, _≤_, _<_}
 use native.Mathlib.Omega.{arith}
 use mathlib.Core.Bool.{Bool, true, false, false≢true}
 use mathlib.Core.Path.{_≡_, refl, ap, _∙_}
+use mathlib.Core.List.{List, [], _∷_}
+use lib.ListN.{length}
+use lib.Dec.{ltb}
+use lib.Ieee.{Float}
 use borrow.Author.Tests.{leb-true, ltb-true}
 use Rattle.numbers.specs.Choice.{pick, unless}
+use Rattle.areas.specs.Widths.{scaleWidth, floatWidth, wordWidth}
+use Rattle.areas.specs.Area.{room, part, write}
+use Rattle.areas.proofs.Tables.{room-fits}
+use Rattle.change.specs.Decoded.{floatsAfter, wordsAfter, unitEntry}
 use Rattle.change.specs.declared.Change.{Change}
 use Rattle.change.specs.declared.Asked.{Asked}
 use Rattle.change.specs.declared.Asked.the-variants.{Known, Unknown}
@@ -14,10 +22,10 @@ use Rattle.change.specs.declared.judge.Moved.{Moved}
 use Rattle.change.specs.declared.judge.Refusal.{Refusal}
 use Rattle.change.specs.declared.judge.Verdict.{Verdict}
 use Rattle.change.specs.declared.judge.Verdict.the-variants.{No, Go}
-use Rattle.change.specs.Steps.{comesTo, roomy, changeJudged}
+use Rattle.change.specs.Steps.{rowRoom, comesTo, roomy, changeJudged, RoomsOf, remade}
 
 -- the verdict lets the change through
-abbrev goes : Verdict → Bool
+abbrev pub goes : Verdict → Bool
 goes (No r) = false
 goes (Go c m) = true
 
@@ -56,3 +64,45 @@ through (Known d) s t c m e =
     let low : s .row < t .rows = ltb-true _ _ (h2 .0) in
     let both = stands (s .drawn) (s .row) (t .rows) (t .rowroom) low (leb-true _ _ (h6 .0)) in
     record { comes = comes; row = low; behind = rw comes (both .0); room = rw comes (both .1) }
+
+-- rows that there is room for lie in both areas
+pub rows-in : (k a b m : ℕ) → m ≡ rowRoom a b → k ≤ m → (k * floatWidth ≤ a) × (k * wordWidth ≤ b)
+rows-in k a b m e h =
+    let x : k ≤ room floatWidth a = omega arith in
+    let y : k ≤ room wordWidth b = omega arith in
+    (room-fits floatWidth a k x .0, room-fits wordWidth b k y .0)
+
+-- the row that an accepted change writes stands at the slot's row or behind it, and lies in both areas
+pub lies : (asked : Asked) (s : Slot) (t : Tables) (c : Change) (m : Moved) (f : List Float) (w : List ℕ) → t .rowroom ≡ rowRoom (length f) (length w) → changeJudged asked s t ≡ Go c m
+    → (s .row ≤ m .row) × (m .row * floatWidth + floatWidth ≤ length f) × (m .row * wordWidth + wordWidth ≤ length w)
+lies asked s t c m f w r e =
+    let p = through asked s t c m e in
+    let h = rows-in (m .row + 1) (length f) (length w) _ r (p .room) in
+    (p .behind, omega (arith, h .0), omega (arith, h .1))
+
+-- ---- what the areas come to, by the verdict v
+
+pub untouched : (v : Verdict) (s : Slot) (t : Tables) (l f : List Float) (w : List ℕ) (r : Refusal) → v ≡ No r → (l, f, w) ≡ remade v s t (l, f, w)
+untouched v s t l f w r e = rw e
+
+module _ (v : Verdict) (s : Slot) (t : Tables) (l f : List Float) (w : List ℕ) (x y : List Float) (z : List ℕ) where
+  pub left-alone : (r : Refusal) → v ≡ No r → (x, y, z) ≡ remade v s t (l, f, w) → (x ≡ l) × ((y ≡ f) × (z ≡ w))
+  left-alone r e h =
+      let k : _≡_ {A = List Float × List Float × List ℕ} (x, y, z) (l, f, w) = rw e at h in
+      (ap (λ (a : List Float × List Float × List ℕ). a .0) k, (ap (λ (a : List Float × List Float × List ℕ). a .1) k, ap (λ (a : List Float × List Float × List ℕ). a .2) k))
+
+  pub carried : (c : Change) (m : Moved) → v ≡ Go c m
+      → x ≡ pick (ltb (t .scales) (m .scales)) (write scaleWidth (t .scales) (unitEntry ∷ []) l) l
+      → y ≡ write floatWidth (m .row) (floatsAfter c (part f (s .row * floatWidth) floatWidth) ∷ []) f
+      → z ≡ write wordWidth (m .row) (wordsAfter c (m .unit - 1) (part w (s .row * wordWidth) wordWidth) ∷ []) w
+      → (x, y, z) ≡ remade v s t (l, f, w)
+  carried c m e ex ey ez = rw (e, ex, ey, ez)
+
+  -- and the other way round
+  pub carried-out : (c : Change) (m : Moved) → v ≡ Go c m → (x, y, z) ≡ remade v s t (l, f, w)
+      → (x ≡ pick (ltb (t .scales) (m .scales)) (write scaleWidth (t .scales) (unitEntry ∷ []) l) l)
+      × ((y ≡ write floatWidth (m .row) (floatsAfter c (part f (s .row * floatWidth) floatWidth) ∷ []) f)
+      × (z ≡ write wordWidth (m .row) (wordsAfter c (m .unit - 1) (part w (s .row * wordWidth) wordWidth) ∷ []) w))
+  carried-out c m e h =
+      let k : (x, y, z) ≡ remade (Go c m) s t (l, f, w) = rw e at h in
+      (ap (λ (a : List Float × List Float × List ℕ). a .0) k, (ap (λ (a : List Float × List Float × List ℕ). a .1) k, ap (λ (a : List Float × List Float × List ℕ). a .2) k))

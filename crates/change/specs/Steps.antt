@@ -1,11 +1,15 @@
 -- This file serves private steps of the code: who reads the promises need not read it. Definitions only.
 -- The judge of a change: what is refused, in document 01's order, and the numbers that an accepted change comes to.
-use Prim.Native.Nat.{ℕ, _+_, min}
+use mathlib.Core.Path.{_≡_}
+use mathlib.Core.List.{List, [], _∷_}
+use Prim.Native.Nat.{ℕ, _+_, _-_, _*_, min}
+use lib.ListN.{length}
+use lib.Ieee.{Float}
 use lib.Dec.{leb, ltb}
 use Rattle.numbers.specs.Choice.{pick, unless}
-use Rattle.areas.specs.Area.{room}
-use Rattle.areas.specs.Widths.{floatWidth, wordWidth}
-use Rattle.change.specs.Decoded.{appends}
+use Rattle.areas.specs.Area.{room, part, write}
+use Rattle.areas.specs.Widths.{scaleWidth, floatWidth, wordWidth}
+use Rattle.change.specs.Decoded.{appends, floatsAfter, wordsAfter, unitEntry}
 use Rattle.change.specs.declared.Change.{Change}
 use Rattle.change.specs.declared.Asked.{Asked}
 use Rattle.change.specs.declared.Asked.the-variants.{Known, Unknown}
@@ -44,3 +48,16 @@ roomy c s t =
 unfoldable pub changeJudged : Asked → Slot → Tables → Verdict
 changeJudged Unknown s t = No refusal.Unknown
 changeJudged (Known c) s t = unless (s .loaded) (No refusal.Unknown) (unless (ltb (s .row) (t .rows)) (No NoRow) (roomy c s t))
+
+-- the judge was told the rooms of these areas: scales, and the two of the rows
+abbrev pub RoomsOf : Tables → List Float → List Float → List ℕ → Type 0
+RoomsOf t l f w = (t .scaleroom ≡ room scaleWidth (length l)) × (t .rowroom ≡ rowRoom (length f) (length w))
+
+-- the three areas once a verdict is carried out
+abbrev pub remade : Verdict → Slot → Tables → List Float × List Float × List ℕ → List Float × List Float × List ℕ
+remade (No r) s t a = a
+remade (Go c m) s t (l, f, w) = (
+  pick (ltb (t .scales) (m .scales)) (write scaleWidth (t .scales) (unitEntry ∷ []) l) l,
+  write floatWidth (m .row) (floatsAfter c (part f (s .row * floatWidth) floatWidth) ∷ []) f,
+  write wordWidth (m .row) (wordsAfter c (m .unit - 1) (part w (s .row * wordWidth) wordWidth) ∷ []) w,
+)

@@ -6,9 +6,14 @@ ghost use lib.Dec.{ltb};
 ghost use lib.ListN.{length};
 ghost use Rattle.numbers.specs.Choice.{pick};
 ghost use Rattle.areas.specs.Area.{part, put, write};
-ghost use Rattle.areas.specs.Widths.{floatWidth, wordWidth, scaleWidth};
+ghost use Rattle.areas.specs.Widths.{most, floatWidth, wordWidth, scaleWidth};
 ghost use Rattle.change.specs.Decoded.{floatsAfter, wordsAfter, unitEntry};
+ghost use Rattle.change.specs.Steps.{RoomsOf, changeJudged, remade};
+use crate::Asked;
 use crate::Change;
+use crate::judge::Slot;
+use crate::judge::Tables;
+use crate::judge::Verdict;
 use areas::widths::COLOUR_WORD;
 use areas::widths::FLOAT_WIDTH;
 use areas::widths::FOG_WORD;
@@ -27,7 +32,7 @@ use areas::widths::WORD_WIDTH;
 
 // The change made in the f32 numbers of the row at place `at`. Asks for a row that lies in the area: its room has been
 // judged before anything is written.
-pub fn change_floats(floats: &mut [f32], at: usize, c: Change)
+fn change_floats(floats: &mut [f32], at: usize, c: Change)
     requires { ⌜ at + floatWidth ≤ length (now floats) ⌝ }
     ensures { λ _. ⌜ now (floats .exit) ≡ put (now (floats .entry)) at (floatsAfter c (part (now (floats .entry)) at floatWidth)) ⌝ }
 {
@@ -48,7 +53,7 @@ pub fn change_floats(floats: &mut [f32], at: usize, c: Change)
 }
 
 // The same in the u32 numbers; `unit` is the place of the unit scale entry.
-pub fn change_words(words: &mut [u32], at: usize, unit: u32, c: Change)
+fn change_words(words: &mut [u32], at: usize, unit: u32, c: Change)
     requires { ⌜ at + wordWidth ≤ length (now words) ⌝ }
     ensures { λ _. ⌜ now (words .exit) ≡ put (now (words .entry)) at (wordsAfter c unit (part (now (words .entry)) at wordWidth)) ⌝ }
 {
@@ -112,7 +117,7 @@ fn copy_words(words: &mut [u32], from: u32, to: u32)
 }
 
 // The f32 numbers of row `from`, with the change, written as those of row `to`. Asks for what a copy asks for.
-pub fn remake_floats(floats: &mut [f32], from: u32, to: u32, c: Change)
+fn remake_floats(floats: &mut [f32], from: u32, to: u32, c: Change)
     requires { ⌜ (from ≤ to) × (to * floatWidth + floatWidth ≤ length (now floats)) ⌝ }
     ensures { λ _. ⌜ now (floats .exit) ≡ write floatWidth to (floatsAfter c (part (now (floats .entry)) (from * floatWidth) floatWidth) ∷ []) (now (floats .entry)) ⌝ }
 {
@@ -121,7 +126,7 @@ pub fn remake_floats(floats: &mut [f32], from: u32, to: u32, c: Change)
 }
 
 // The same for the u32 numbers; `unit` is the place of the unit scale entry plus 1, or 0 where there is none.
-pub fn remake_words(words: &mut [u32], from: u32, to: u32, unit: u32, c: Change)
+fn remake_words(words: &mut [u32], from: u32, to: u32, unit: u32, c: Change)
     requires { ⌜ (from ≤ to) × (to * wordWidth + wordWidth ≤ length (now words)) ⌝ }
     ensures { λ _. ⌜ now (words .exit) ≡ write wordWidth to (wordsAfter c (unit - 1) (part (now (words .entry)) (from * wordWidth) wordWidth) ∷ []) (now (words .entry)) ⌝ }
 {
@@ -130,11 +135,36 @@ pub fn remake_words(words: &mut [u32], from: u32, to: u32, unit: u32, c: Change)
 }
 
 // The unit scale entry written behind those in use, where there is to be one more.
-pub fn append_unit(scales: &mut [f32], used: u32, then: u32)
+fn append_unit(scales: &mut [f32], used: u32, then: u32)
     ensures { λ _. ⌜ now (scales .exit) ≡ pick (ltb used «then») (write scaleWidth used (unitEntry ∷ []) (now (scales .entry))) (now (scales .entry)) ⌝ }
 {
     if used < then {
         let entry = [1.0f32, 1.0, 0.0, 0.0];
         areas::put_f32(scales, areas::place(SCALE_WIDTH, used), &entry);
     }
+}
+
+// The change judged, and written where it is accepted: the unit scale entry, and the row. Asks for counts in their range and for the
+// rooms of the three areas, which its callers have at hand.
+pub fn remake(
+    asked: Asked,
+    s: Slot,
+    t: Tables,
+    scales: &mut [f32],
+    floats: &mut [f32],
+    words: &mut [u32],
+) -> Verdict
+    requires { ⌜ (t .scales ≤ most) × (t .rows ≤ most) × RoomsOf t (now scales) (now floats) (now words) ⌝ }
+    ensures { λ r. ⌜ (r ≡ changeJudged asked s t) × ((now (scales .exit), now (floats .exit), now (words .exit)) ≡ remade r s t (now (scales .entry), now (floats .entry), now (words .entry))) ⌝ }
+{
+    let v = crate::judge::judge(asked, s, t);
+    match v {
+        Verdict::No(_) => {}
+        Verdict::Go(c, m) => {
+            append_unit(scales, t.scales, m.scales);
+            remake_floats(floats, s.row, m.row, c);
+            remake_words(words, s.row, m.row, m.unit, c);
+        }
+    }
+    v
 }

@@ -1,20 +1,21 @@
 -- The plan of a modify is what its judge's verdict stands for. Assumes nothing.
-use mathlib.Core.Path.{_≡_, refl, sym, _∙_}
-use Prim.Native.Nat.{ℕ, _+_, _-_, _*_, _≤_, _<_}
+use mathlib.Core.Path.{_≡_, refl, sym, ap, _∙_}
+use Prim.Native.Nat.{ℕ, _+_, _-_, _*_, _%_, _≤_, _<_}
 use native.Mathlib.Nat.{add-zero}
 use native.Mathlib.Omega.{arith}
-use mathlib.Core.Bool.{Bool, true, false}
+use mathlib.Core.Bool.{Bool, true, false, false≢true, _&&_, and-true, and-false}
 use mathlib.Core.List.{List, [], _∷_}
 use lib.ListN.{length, getD, set}
 use lib.Dec.{ltb}
 use lib.Ieee.{Float, nan}
-use borrow.Author.Tests.{lt-ltb, le-ltb}
+use borrow.Author.Tests.{lt-ltb, le-ltb, ltb-true, ltb-false}
 use Rattle.areas.specs.Widths.{scaleWidth, floatWidth, wordWidth}
 use Rattle.areas.specs.Area.{room, part, write}
 use Rattle.areas.proofs.Tables.{length-entries}
 use Rattle.change.specs.declared.Change.{Change}
 use Rattle.change.specs.declared.Asked.{Asked}
 use Rattle.change.specs.declared.Asked.the-variants.{Known, Unknown}
+use Rattle.change.specs.declared.judge.Slot.{Slot}
 use Rattle.change.specs.declared.judge.Tables.{Tables}
 use Rattle.change.specs.declared.judge.Moved.{Moved}
 use Rattle.change.specs.declared.judge.Refusal.{Refusal}
@@ -23,8 +24,8 @@ use Rattle.change.specs.declared.judge.Refusal.the-variants as refusal
 use Rattle.change.specs.declared.judge.Verdict.{Verdict}
 use Rattle.change.specs.declared.judge.Verdict.the-variants.{No, Go}
 use Rattle.change.specs.Decoded.{decoded, floatsAfter, wordsAfter, depthAfter, unitEntry, appends}
-use Rattle.change.specs.Steps.{comesTo, roomy, changeJudged}
-use Rattle.change.proofs.Accepted.{through}
+use Rattle.change.specs.Steps.{comesTo, roomy, changeJudged, remade}
+use Rattle.change.proofs.Accepted.{goes, through, lies, left-alone, carried-out}
 use Rattle.stage.specs.declared.State.{State}
 use Rattle.stage.specs.declared.Answer.{Answer}
 use Rattle.stage.specs.declared.Answer.the-variants.{Done, BadState}
@@ -35,7 +36,7 @@ use Rattle.stage.specs.With.{withCounts, withUnit, withRow, withDrawn, w
 use Rattle.stage.specs.Modify.{areas37, edits37, asking, scaleEdit, rowEdit, rowChange, moved, changed, changePlan, modifyPlan}
 use Rattle.stage.specs.Steps.{modifyAnswer, slotLooked, tablesLooked, countsTo}
 use Rattle.stage.proofs.Cascade.{refused, passed}
-use Rattle.stage.proofs.RowEntries.{length-rows, row-at, rows-in}
+use Rattle.stage.proofs.RowEntries.{length-rows, row-at}
 
 -- one entry appended, or none, as a count has it
 grown : {E : Type 0} (b : Bool) (n : ℕ) (x : E) (e : Edit E) → more e ≡ 0 → n + more (pick b (grow (x ∷ [])) e) ≡ pick b (n + 1) n
@@ -77,10 +78,26 @@ settled true false i r s t l f w = refl
 settled false true i r s t l f w = refl
 settled false false i r s t l f w = refl
 
--- the verdict x on what the code looks at of a slot that there is
-pub looked : (slots : ℕ) (s : State) (slot : ℕ) (k j : Asked) (t u : Tables) (b : Bool) (v x : Verdict) → slot < slots → k ≡ j → t ≡ u → b ≡ getD (s .loaded) slot false
-    → v ≡ changeJudged k (record { loaded = b; drawn = getD (s .drawn) slot false; row = getD (s .row) slot 0 }) t → v ≡ x → changeJudged j (slotLooked slots s slot) u ≡ x
-looked slots s slot k j t u b v x h ek et eb e d = rw (lt-ltb slot slots h, ← eb, ← ek, ← et) (sym e ∙ d)
+-- a slot that there is stands in the columns at its own number
+pub mod-slot : (slot : ℕ) → slot < 256 → slot % 256 ≡ slot
+mod-slot slot h = omega arith
+
+-- the verdict x on what the code looks at: the columns where the slot's number leads within them, and a mark that tells of no slot beyond
+pub looked : (s : State) (slot : ℕ) (k j : Asked) (t u : Tables) (b : Bool) (v x : Verdict) → k ≡ j → t ≡ u → (slot < 256 → b ≡ getD (s .loaded) slot false)
+    → v ≡ changeJudged k (record { loaded = b && ltb slot 256; drawn = getD (s .drawn) (slot % 256) false; row = getD (s .row) (slot % 256) 0 }) t → v ≡ x → changeJudged j (slotLooked 256 s slot) u ≡ x
+unfolding changeJudged unless
+looked s slot k j t u b v x ek et eb e d = by (ltb slot 256) refl ∙ sym e ∙ d
+  where
+    beyond : (j : Asked) → changeJudged j (record { loaded = false; drawn = getD (s .drawn) slot false; row = getD (s .row) slot 0 }) u ≡ changeJudged j (record { loaded = false; drawn = getD (s .drawn) (slot % 256) false; row = getD (s .row) (slot % 256) 0 }) u
+    beyond Unknown = refl
+    beyond (Known c) = refl
+
+    by : (q : Bool) → ltb slot 256 ≡ q
+        → changeJudged j (slotLooked 256 s slot) u ≡ changeJudged k (record { loaded = b && ltb slot 256; drawn = getD (s .drawn) (slot % 256) false; row = getD (s .row) (slot % 256) 0 }) t
+    by true h =
+        let i : slot < 256 = ltb-true slot 256 h in
+        rw (h, eb i, mod-slot slot i, ek, et, and-true)
+    by false h = rw (h, ek, et, and-false) (beyond j)
 
 -- the judge's verdict on a change asked for, and what is planned once the state is sound
 abbrev pub verdict : ℕ → State → List Float → List Float → List ℕ → ℕ → Asked → Verdict
@@ -92,10 +109,7 @@ plan slots s l f w slot attribute k = asking k slot attribute (changePlan slots 
 -- the row that an accepted change writes stands at the slot's row or behind it, and lies in both areas
 pub written : (slots : ℕ) (s : State) (l f : List Float) (w : List ℕ) (slot : ℕ) (k : Asked) (c : Change) (m : Moved) → verdict slots s l f w slot k ≡ Go c m
     → (getD (s .row) slot 0 ≤ m .row) × (m .row * floatWidth + floatWidth ≤ length f) × (m .row * wordWidth + wordWidth ≤ length w)
-written slots s l f w slot k c m e =
-    let t = through k _ _ c m e in
-    let h = rows-in (m .row + 1) (length f) (length w) _ refl (t .room) in
-    (t .behind, omega (arith, h .0), omega (arith, h .1))
+written slots s l f w slot k c m e = lies k (slotLooked slots s slot) _ c m f w refl e
 
 module _ (slots : ℕ) (s : State) (l f : List Float) (w : List ℕ) (slot attribute : ℕ) where
   -- THE PLAN OF A MODIFY IS WHAT THE VERDICT STANDS FOR
@@ -117,6 +131,14 @@ module _ (slots : ℕ) (s : State) (l f : List Float) (w : List ℕ) (slot attri
   unfolding changeJudged unless
   no-slot Unknown h = refl
   no-slot (Known c) h = rw (le-ltb slot slots h)
+
+  -- so an accepted change is of a slot that there is
+  pub there-is : (k : Asked) (c : Change) (m : Moved) → verdict slots s l f w slot k ≡ Go c m → slot < slots
+  there-is k c m e = by (ltb slot slots) refl
+    where
+      by : (b : Bool) → ltb slot slots ≡ b → slot < slots
+      by true h = ltb-true slot slots h
+      by false h = absurd (false≢true (ap goes (sym (no-slot k (ltb-false slot slots h)) ∙ e)))
 
   -- a refusal of the judge is what the plan comes to
   pub refused-by : (k : Asked) (r : Refusal) → verdict slots s l f w slot k ≡ No r
@@ -153,12 +175,12 @@ pub same-state : (s g : State) (d : List Bool) (r : List ℕ) (z : List Float) �
 same-state s g d r z eg ed er ez = rw (eg, ed, er, ez)
 
 -- the state of an accepted change, where the code has set its numbers and put back three columns
-pub changed-state : (c : Change) (m : Moved) (s g : State) (slot : ℕ) (b : Bool) (v : Float) (d : List Bool) (r : List ℕ) (z : List Float)
-    → g ≡ withCounts (withUnit s (m .unit)) (countsTo m (s .counts)) → d ≡ set (s .drawn) slot false → r ≡ set (s .row) slot (m .row) → z ≡ set (s .z) slot v
-    → v ≡ depthAfter c b (getD (s .z) slot nan) → b ≡ getD (s .deep) slot false
+pub changed-state : (c : Change) (m : Moved) (s g : State) (slot i : ℕ) (b : Bool) (v : Float) (d : List Bool) (r : List ℕ) (z : List Float) → i ≡ slot
+    → g ≡ withCounts (withUnit s (m .unit)) (countsTo m (s .counts)) → d ≡ set (s .drawn) i false → r ≡ set (s .row) i (m .row) → z ≡ set (s .z) i v
+    → v ≡ depthAfter c b (getD (s .z) i nan) → b ≡ getD (s .deep) slot false
     → withZ (withRow (withDrawn g d) r) z ≡ withCounts (changed c m s slot) (countsTo m (s .counts))
 unfolding changed
-changed-state c m s g slot b v d r z eg ed er ez ev eb = rw (eg, ed, er, ez, ev, eb)
+changed-state c m s g slot i b v d r z ei eg ed er ez ev eb = rw (eg, ed, er, ez, ev, eb, ei)
 
 -- ---- the ways out of a modify: the state t, the answer a and the areas x, y and z are those of the plan
 module _ (slots : ℕ) (s : State) (l f : List Float) (w : List ℕ) (slot attribute value : ℕ) (t : State) (a : Answer) (x y : List Float) (z : List ℕ) where
@@ -171,15 +193,20 @@ module _ (slots : ℕ) (s : State) (l f : List Float) (w : List ℕ) (slot attri
   unfolding modifyPlan
   way-unsound h et ea ex ey ez = rw (et, ea, ex, ey, ez) (refused areas37 _ _ _ _ BadState h)
 
-  pub way-refused : (r : Refusal) → stateSound s ≡ true → verdict slots s l f w slot (decoded attribute value) ≡ No r
-      → t ≡ s → a ≡ modifyAnswer slot attribute r → x ≡ l → y ≡ f → z ≡ w → Way
-  unfolding modifyPlan
-  way-refused r h e et ea ex ey ez = rw (et, ea, ex, ey, ez) (passed areas37 _ _ _ _ _ _ _ h (refused-by slots s l f w slot attribute _ r e))
+  -- the leaf's own areas: as they were where it refuses, and where it accepts what its verdict makes of them
+  module _ (v : Verdict) (i : Slot) (u : Tables) (x' y' : List Float) (z' : List ℕ) (q : (x', y', z') ≡ remade v i u (l, f, w)) (ex : x ≡ x') (ey : y ≡ y') (ez : z ≡ z') where
+    pub way-refused : (r : Refusal) → stateSound s ≡ true → verdict slots s l f w slot (decoded attribute value) ≡ No r → v ≡ No r
+        → t ≡ s → a ≡ modifyAnswer slot attribute r → Way
+    unfolding modifyPlan
+    way-refused r h e ev et ea =
+        let k = left-alone v i u l f w x' y' z' r ev q in
+        rw (et, ea, ex, ey, ez, k .0, k .1 .0, k .1 .1) (passed areas37 _ _ _ _ _ _ _ h (refused-by slots s l f w slot attribute _ r e))
 
-  pub way-accepted : (c : Change) (m : Moved) → stateSound s ≡ true → verdict slots s l f w slot (decoded attribute value) ≡ Go c m
-      → t ≡ withCounts (changed c m s slot) (countsTo m (s .counts)) → a ≡ Done
-      → x ≡ pick (ltb (s .counts .scales) (m .scales)) (write scaleWidth (s .counts .scales) (unitEntry ∷ []) l) l
-      → y ≡ write floatWidth (m .row) (floatsAfter c (part f (getD (s .row) slot 0 * floatWidth) floatWidth) ∷ []) f
-      → z ≡ write wordWidth (m .row) (wordsAfter c (m .unit - 1) (part w (getD (s .row) slot 0 * wordWidth) wordWidth) ∷ []) w → Way
-  unfolding modifyPlan
-  way-accepted c m h e et ea ex ey ez = rw ea (passed areas37 _ _ _ _ _ _ _ h (accepted slots s l f w slot attribute _ c m e t x y z ex ey ez et))
+    pub way-accepted : (c : Change) (m : Moved) → stateSound s ≡ true → verdict slots s l f w slot (decoded attribute value) ≡ Go c m → v ≡ Go c m
+        → i .row ≡ getD (s .row) slot 0 → u .scales ≡ s .counts .scales → t ≡ withCounts (changed c m s slot) (countsTo m (s .counts)) → a ≡ Done → Way
+    unfolding modifyPlan
+    way-accepted c m h e ev ei eu et ea =
+        let k = carried-out v i u l f w x' y' z' c m ev q in
+        rw ea
+        (passed areas37 _ _ _ _ _ _ _ h
+        (accepted slots s l f w slot attribute _ c m e t x y z (ex ∙ k .0 ∙ rw eu) (ey ∙ k .1 .0 ∙ rw ei) (ez ∙ k .1 .1 ∙ rw ei) et))

@@ -10,9 +10,10 @@ use lib.Dec.{leb}
 use lib.Ieee.{Float}
 use borrow.Author.Tests.{leb-true}
 use Rattle.areas.specs.Widths.{floatWidth, wordWidth}
-use Rattle.areas.specs.Area.{entries, room, part}
-use Rattle.areas.proofs.Tables.{length-entries, entry-is, room-fits}
+use Rattle.areas.specs.Area.{entries, part}
+use Rattle.areas.proofs.Tables.{length-entries, entry-is}
 use Rattle.change.specs.Steps.{rowRoom}
+use Rattle.change.proofs.Accepted.{rows-in}
 use Rattle.stage.specs.Plan.{rowsOf, rowTable, rowWords}
 
 -- entries of the same number make as many rows
@@ -55,13 +56,6 @@ module _ (n : ℕ) (f : List Float) (w : List ℕ) where
   pub rows-hold : (k m : ℕ) (r : Bool) → m ≡ rowRoom (length f) (length w) → r ≡ leb (n + k) m → r ≡ leb (length (rowTable n f w .used) + k) (rowTable n f w .room)
   rows-hold k m r e h = h ∙ rw (e, length-rows)
 
--- rows that there is room for lie in both areas
-pub rows-in : (k a b m : ℕ) → m ≡ rowRoom a b → k ≤ m → (k * floatWidth ≤ a) × (k * wordWidth ≤ b)
-rows-in k a b m e h =
-    let x : k ≤ room floatWidth a = omega arith in
-    let y : k ≤ room wordWidth b = omega arith in
-    (room-fits floatWidth a k x .0, room-fits wordWidth b k y .0)
-
--- so do those that refusal 8 lets through
+-- rows that refusal 8 lets through lie in both areas
 pub rows-held : (k a b m : ℕ) → m ≡ rowRoom a b → leb (k + 0) m ≡ true → (k * floatWidth ≤ a) × (k * wordWidth ≤ b)
 rows-held k a b m e t = let h : k + 0 ≤ m = leb-true (k + 0) m t in rows-in k a b m e (omega arith)

@@ -79,33 +79,28 @@ impl State {
         let mut z = self.z;
         let mut answer = Answer::BadState;
         if self.sound() {
-            if 256 <= slot {
-                answer = Answer::BadModify(slot, attribute);
-            } else {
-                let k = slot as usize;
-                let s = Slot {
-                    loaded: there,
-                    drawn: drawn[k],
-                    row: row[k],
-                };
-                let t = self.tables37(scales.len(), floats.len(), words.len());
-                let v = change::judge::judge(change::decode(attribute, value), s, t);
-                match v {
-                    Verdict::No(r) => {
-                        answer = answer_of(r, slot, attribute);
-                    }
-                    Verdict::Go(c, m) => {
-                        change::remake::append_unit(scales, self.counts.scales, m.scales);
-                        change::remake::remake_floats(floats, s.row, m.row, c);
-                        change::remake::remake_words(words, s.row, m.row, m.unit, c);
-                        row[k] = m.row;
-                        drawn[k] = false;
-                        z[k] = change::depth_after(c, deeply, z[k]);
-                        self.unit = m.unit;
-                        self.counts.scales = m.scales;
-                        self.counts.rows = m.rows;
-                        answer = Answer::Done;
-                    }
+            let k = (slot % 256) as usize;
+            // A slot that there is not is refused as one that is not loaded.
+            let s = Slot {
+                loaded: there & (slot < 256),
+                drawn: drawn[k],
+                row: row[k],
+            };
+            let t = self.tables37(scales.len(), floats.len(), words.len());
+            let asked = change::decode(attribute, value);
+            let v = change::remake::remake(asked, s, t, scales, floats, words);
+            match v {
+                Verdict::No(r) => {
+                    answer = answer_of(r, slot, attribute);
+                }
+                Verdict::Go(c, m) => {
+                    row[k] = m.row;
+                    drawn[k] = false;
+                    z[k] = change::depth_after(c, deeply, z[k]);
+                    self.unit = m.unit;
+                    self.counts.scales = m.scales;
+                    self.counts.rows = m.rows;
+                    answer = Answer::Done;
                 }
             }
         }
