@@ -7,10 +7,6 @@ use lib.ListN.{length}
 use lib.Seq.{set-out}
 use Rattle.player.specs.Acts.{countAfter}
 
--- one number more that it is not
-pub past : {x k : ℕ} → k ≤ x → (x ≡ k → ⊥) → k + 1 ≤ x
-past h n = omega arith
-
 -- a table that there is not
 pub no-table : (t n : ℕ) (l : List ℕ) → (1 ≤ t → length l < t) → l ≡ countAfter t n l
 no-table zero n l h = refl

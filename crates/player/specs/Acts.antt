@@ -1,35 +1,12 @@
--- What the driver does by itself. Definitions only.
+-- What the driver does by itself to a state. Definitions only.
 use Prim.Native.Nat.{ℕ, zero, suc, _%_}
-use mathlib.Core.Bool.{true, _&&_}
+use mathlib.Core.Bool.{true}
 use mathlib.Core.List.{List, [], _∷_}
 use lib.ListN.{set, getD}
 use lib.Dec.{eqb}
-use Rattle.areas.specs.Area.{put}
-use Rattle.numbers.specs.Choice.{pick}
 use Rattle.stage.specs.declared.State.{State}
 use Rattle.stage.specs.declared.Counts.{Counts}
 use Rattle.stage.specs.With.{withOpened, withModel, withLights, withNumber, withCounts, withRow, withEver}
-use Rattle.trace.specs.declared.rooms.Lengths.{Lengths}
-use Rattle.trace.specs.declared.script.Call.{Call}
-
--- the ten lengths by their areas' numbers
-abbrev pub lengthList : Lengths → List ℕ
-lengthList l =
-    l .matrices
-    ∷ l .viewports
-    ∷ l .scales
-    ∷ l .lights
-    ∷ l .lookats
-    ∷ l .fogs
-    ∷ l .floats
-    ∷ l .words
-    ∷ l .indices
-    ∷ l .runs
-    ∷ []
-
--- the lengths lent after an op
-unfoldable pub lentAfter : Call → List ℕ → List ℕ
-lentAfter c l = pick (eqb (c .op) 32) (set l (c .args .a) (c .args .b)) l
 
 -- the nine counts, table 1's first
 abbrev pub countList : Counts → List ℕ
@@ -69,7 +46,3 @@ pokedStates s i v =
 -- a field that there is not leaves the state as it is
 unfoldable pub pokedState : State → ℕ → ℕ → ℕ → State
 pokedState s f i v = getD (pokedStates s i v) f s
-
--- the numbers of an area after an op: `write` puts the number v there, where its place lies in the area
-unfoldable pub writtenTo : {A : Type 0} → ℕ → Call → A → List A → List A
-writtenTo k c v l = pick (eqb (c .op) 35 && eqb (c .args .a) k) (put l (c .args .b) (v ∷ [])) l

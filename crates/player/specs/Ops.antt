@@ -20,7 +20,8 @@ use Rattle.stage.specs.Opening.{blank, openingPlan, areas12}
 use Rattle.sequence.specs.Sequence.{Command, matrix, force, pop, viewport, geometry, texture, fog, number, light, lookat, microcode, load, cull, depth, modify, draw, ink, Areas, Port, plan, result, with12}
 use Rattle.trace.specs.declared.rooms.Lengths.{Lengths}
 use Rattle.trace.specs.declared.script.Call.{Call}
-use Rattle.player.specs.Acts.{pokedState, writtenTo}
+use Rattle.trace.specs.Acts.{writtenTo}
+use Rattle.player.specs.Acts.{pokedState}
 
 -- the op k does x; another does y
 abbrev pub on : {A : Type 0} → Call → ℕ → A → A → A

@@ -11,7 +11,7 @@ use Rattle.sequence.specs.Sequence.{Areas, Port}
 use Rattle.trace.specs.declared.rooms.Lengths.{Lengths}
 use Rattle.trace.specs.declared.script.Call.{Call}
 use Rattle.trace.specs.Script.{callAt}
-use Rattle.player.specs.Acts.{lengthList, lentAfter}
+use Rattle.trace.specs.Acts.{lengthList, lentAfter}
 use Rattle.player.specs.Ops.{stepBy}
 use Rattle.trace.specs.Shapes.{shapeOf}
 

@@ -194,6 +194,6 @@ pub fn step(
         &mut indices[..n8],
         &mut runs[..n9],
     );
-    act::write(c, fogs, words, indices, runs);
+    trace::act::write(c, fogs, words, indices, runs);
     r
 }

@@ -54,7 +54,7 @@ fn play(
             indices,
             runs,
         );
-        lent = player::act::lent_after(lent, c);
+        lent = trace::act::lent_after(lent, c);
         let answer = g.answer;
         let counts = g.state.counts;
         show::answered(i, c.op, answer, counts);

@@ -1,3 +1,4 @@
+pub mod Lending
 pub mod Reading
 pub mod Serving
 pub mod Shapes

@@ -1,3 +1,4 @@
+pub mod Acts
 pub mod Script
 pub mod Header
 pub mod Shapes

@@ -3,7 +3,7 @@ use mathlib.Core.Path.{sym}
 use Prim.Native.Nat.{zero-le}
 use lib.ListN.{List·getD-eq-default}
 use Rattle.player.specs.Acts.{pokedStates, pokedState}
-use Rattle.player.proofs.Acting.{past}
+use Rattle.trace.proofs.Lending.{past}
 use borrow.Author.Needs.{needs}
 use Rattle.player.proofs.act.poked.Statement.{statement}
 use Rattle.player.proofs.act.poked.Tie as tie

@@ -2,7 +2,8 @@
 use mathlib.Core.Path.{ap}
 use Rattle.player.specs.Acts.{countList, countsOf}
 use native.Mathlib.Omega.{arith}
-use Rattle.player.proofs.Acting.{no-table, past}
+use Rattle.trace.proofs.Lending.{past}
+use Rattle.player.proofs.Acting.{no-table}
 use Rattle.player.proofs.act.with_count.Statement.{statement}
 use Rattle.player.proofs.act.with_count.Tie as tie
 

@@ -1,10 +1,10 @@
--- `player::act::write` meets its contract. Assumes nothing.
+-- `trace::act::write` meets its contract. Assumes nothing.
 use mir.Syntax.{w16}
 use Rattle.layout.proofs.Signed.{handed}
-use Rattle.player.specs.Acts.{writtenTo}
+use Rattle.trace.specs.Acts.{writtenTo}
 use borrow.Author.Needs.{needs}
-use Rattle.player.proofs.act.write.Statement.{statement}
-use Rattle.player.proofs.act.write.Tie as tie
+use Rattle.trace.proofs.act.write.Statement.{statement}
+use Rattle.trace.proofs.act.write.Tie as tie
 
 cast-at : tie.Need-cast-at
 cast-at c = search needs

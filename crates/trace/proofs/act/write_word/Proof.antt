@@ -1,8 +1,8 @@
--- `player::act::write_word` meets its contract. Assumes nothing.
+-- `trace::act::write_word` meets its contract. Assumes nothing.
 use Rattle.numbers.specs.Choice.{pick}
 use borrow.Author.Needs.{needs}
-use Rattle.player.proofs.act.write_word.Statement.{statement}
-use Rattle.player.proofs.act.write_word.Tie as tie
+use Rattle.trace.proofs.act.write_word.Statement.{statement}
+use Rattle.trace.proofs.act.write_word.Tie as tie
 
 slice-aggregate-put-u32 : tie.Need-slice-aggregate-put-u32
 slice-aggregate-put-u32 c = search needs

@@ -1,12 +1,12 @@
--- `player::act::with_length` meets its contract. Assumes nothing.
+-- `trace::act::with_length` meets its contract. Assumes nothing.
 use Prim.Native.Nat.{zero-le}
-use Rattle.player.proofs.Acting.{past}
-use Rattle.player.specs.Acts.{lengthList}
+use Rattle.trace.proofs.Lending.{past}
+use Rattle.trace.specs.Acts.{lengthList}
 use native.Mathlib.Omega.{arith}
 use mathlib.Core.Path.{sym}
 use lib.Seq.{set-out}
-use Rattle.player.proofs.act.with_length.Statement.{statement}
-use Rattle.player.proofs.act.with_length.Tie as tie
+use Rattle.trace.proofs.act.with_length.Statement.{statement}
+use Rattle.trace.proofs.act.with_length.Tie as tie
 
 returns : tie.Need-returns
 returns c = rw (c .match .keys1)

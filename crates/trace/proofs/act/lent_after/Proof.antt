@@ -1,10 +1,10 @@
--- `player::act::lent_after` meets its contract. Assumes nothing.
+-- `trace::act::lent_after` meets its contract. Assumes nothing.
 use borrow.Author.Tests.{eq-eqb, ne-eqb}
 use Rattle.numbers.specs.Choice.{pick}
-use Rattle.player.specs.Acts.{lentAfter}
+use Rattle.trace.specs.Acts.{lentAfter}
 use borrow.Author.Needs.{needs}
-use Rattle.player.proofs.act.lent_after.Statement.{statement}
-use Rattle.player.proofs.act.lent_after.Tie as tie
+use Rattle.trace.proofs.act.lent_after.Statement.{statement}
+use Rattle.trace.proofs.act.lent_after.Tie as tie
 
 cast-with-length : tie.Need-cast-with-length
 cast-with-length c = search needs

@@ -1,9 +1,9 @@
--- `player::act::write_half` meets its contract. Assumes nothing.
+-- `trace::act::write_half` meets its contract. Assumes nothing.
 use mir.Facts.{toZ-ofZ}
 use Rattle.numbers.specs.Choice.{pick}
 use borrow.Author.Needs.{needs}
-use Rattle.player.proofs.act.write_half.Statement.{statement}
-use Rattle.player.proofs.act.write_half.Tie as tie
+use Rattle.trace.proofs.act.write_half.Statement.{statement}
+use Rattle.trace.proofs.act.write_half.Tie as tie
 
 slice-aggregate-put-i16 : tie.Need-slice-aggregate-put-i16
 slice-aggregate-put-i16 c = search needs
