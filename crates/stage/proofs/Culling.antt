@@ -40,33 +40,30 @@ stopped s i true true p e = absurd (false≢true (sym e))
 unfoldable pub rest : State → ℕ → ℕ → ℕ → Plan
 rest s last m i = judgeCodes s (slotsTo i last) (does (bit (not (eqb (anded m (codesOf s (slotsTo i last))) 0)) ∷ []) s untouched)
 
--- the slots before i are passed: what is left decides. The last is one of the 256
-pub record Walking (s : State) (first last m i : ℕ) : Type 0 where
-  pub same : rest s last 0x0f first ≡ rest s last m i
-  pub few : last < 256
+-- the last is one of the 256
+pub few : (first last : ℕ) → leb first last && ltb last 256 ≡ true → last < 256
+few first last h = ltb-true last 256 (and-eq-true-iff (leb first last) (ltb last 256) .0 h .1)
 
--- no slot is passed yet
-pub walk-none : (s : State) (first last : ℕ) → leb first last && ltb last 256 ≡ true → Walking s first last 0x0f first
-walk-none s first last h = record { same = refl; few = ltb-true last 256 (and-eq-true-iff (leb first last) (ltb last 256) .0 h .1) }
-
-module _ (s : State) (first last m i : ℕ) (w : Walking s first last m i) where
+-- the slots before i are passed: what is left decides
+module _ (s : State) (first last m i : ℕ) (w : rest s last 0x0f first ≡ rest s last m i) where
   -- one more slot is loaded and has a code
-  pub walk-more : i ≤ last → getD (s .loaded) i false && getD (s .coded) i false ≡ true → Walking s first last (bitAnd m (getD (s .code) i 0)) (i + 1)
+  pub walk-more : i ≤ last → getD (s .loaded) i false && getD (s .coded) i false ≡ true
+      → rest s last 0x0f first ≡ rest s last (bitAnd m (getD (s .code) i 0)) (i + 1)
   unfolding rest unless
   walk-more h e =
       let both = and-eq-true-iff (getD (s .loaded) i false) (getD (s .coded) i false) .0 e in
-      record { same = w .same ∙ rw (slots-next i last h, both .0, both .1); few = w .few }
+      w ∙ rw (slots-next i last h, both .0, both .1)
 
   -- a slot is not loaded, or has no code
   pub walk-stops : i ≤ last → getD (s .loaded) i false && getD (s .coded) i false ≡ false → (a : Answer) → a ≡ pick (getD (s .loaded) i false) (NoCode i) (NotLoaded i)
       → outcome (record { state = s; answer = a }) tt ≡ carry nothing (rest s last 0x0f first) s tt
   unfolding rest
-  walk-stops h e a q = rw (w .same, q, slots-next i last h) (stopped s i _ _ _ e)
+  walk-stops h e a q = rw (w, q, slots-next i last h) (stopped s i _ _ _ e)
 
   -- no slot is left
   pub walk-ends : last < i → (v : ℕ) → v ≡ bit (not (eqb m 0)) → outcome (record { state = s; answer = Told v }) tt ≡ carry nothing (rest s last 0x0f first) s tt
   unfolding rest
-  walk-ends h v e = rw (w .same, slots-none i last h) (told s v (bit (not (eqb m 0))) e)
+  walk-ends h v e = rw (w, slots-none i last h) (told s v (bit (not (eqb m 0))) e)
 
 -- codes 34 and 32: not culled, since 34 AND 32 AND 15 is 0
 pub not-culled : culled (34 ∷ 32 ∷ []) ≡ false

@@ -69,21 +69,15 @@ fn corners_at(row: &[u32; 256], ever: &[bool; 256], a: u32, b: u32, c: u32) -> C
 }
 
 impl State {
-    // Cull test: 1 where the slots first to last all lie outside one of the four side planes, else 0.
-    pub fn cull_display_list(mut self, first: u32, last: u32) -> Answered
-        ensures { λ r. ⌜ outcome r tt ≡ carry nothing (cullPlan (limit self) self first last) self tt ⌝ }
+    // What the cull test answers.
+    fn culled(self, first: u32, last: u32) -> Answer
+        ensures { λ r. ⌜ outcome (record { state = self; answer = r }) tt ≡ carry nothing (cullPlan (limit self) self first last) self tt ⌝ }
     {
         if !self.sound() {
-            return Answered {
-                state: self,
-                answer: Answer::BadState,
-            };
+            return Answer::BadState;
         }
         if !((first <= last) & (last < 256)) {
-            return Answered {
-                state: self,
-                answer: Answer::BadCull(first, last),
-            };
+            return Answer::BadCull(first, last);
         }
         let loaded = self.loaded;
         let coded = self.coded;
@@ -93,50 +87,54 @@ impl State {
         while i <= last {
             let k = i as usize;
             if !(loaded[k] & coded[k]) {
-                return Answered {
-                    state: self,
-                    answer: uncoded(loaded[k], i),
-                };
+                return uncoded(loaded[k], i);
             }
             common = common & code[k];
             i = i + 1;
         }
+        Answer::Told(slot::word_of(common != 0))
+    }
+
+    // Cull test: 1 where the slots first to last all lie outside one of the four side planes, else 0.
+    pub fn cull_display_list(self, first: u32, last: u32) -> Answered
+        ensures { λ r. ⌜ outcome r tt ≡ carry nothing (cullPlan (limit self) self first last) self tt ⌝ }
+    {
+        let answer = self.culled(first, last);
         Answered {
             state: self,
-            answer: Answer::Told(slot::word_of(common != 0)),
+            answer: answer,
         }
     }
 
-    // Depth test: 1 where the slot's screen z is at most the threshold over 65536, else 0.
-    pub fn branch_z(mut self, slot: u32, threshold: u32) -> Answered
-        ensures { λ r. ⌜ outcome r tt ≡ carry nothing (depthPlan (limit self) self slot threshold) self tt ⌝ }
+    // What the depth test answers.
+    fn near(self, slot: u32, threshold: u32) -> Answer
+        ensures { λ r. ⌜ outcome (record { state = self; answer = r }) tt ≡ carry nothing (depthPlan (limit self) self slot threshold) self tt ⌝ }
     {
         if !self.sound() {
-            return Answered {
-                state: self,
-                answer: Answer::BadState,
-            };
+            return Answer::BadState;
         }
         let loaded = self.loaded;
         let deep = self.deep;
         let z = self.z;
         let i = (slot % 256) as usize;
         if !((slot < 256) & loaded[i]) {
-            return Answered {
-                state: self,
-                answer: Answer::NotLoaded(slot),
-            };
+            return Answer::NotLoaded(slot);
         }
         if !deep[i] {
-            return Answered {
-                state: self,
-                answer: Answer::NoCode(slot),
-            };
+            return Answer::NoCode(slot);
         }
         let most = numbers::ratio::wide_by_65536(threshold);
+        Answer::Told(slot::word_of(z[i] <= most))
+    }
+
+    // Depth test: 1 where the slot's screen z is at most the threshold over 65536, else 0.
+    pub fn branch_z(self, slot: u32, threshold: u32) -> Answered
+        ensures { λ r. ⌜ outcome r tt ≡ carry nothing (depthPlan (limit self) self slot threshold) self tt ⌝ }
+    {
+        let answer = self.near(slot, threshold);
         Answered {
             state: self,
-            answer: Answer::Told(slot::word_of(z[i] <= most)),
+            answer: answer,
         }
     }
 

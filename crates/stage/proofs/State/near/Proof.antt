@@ -9,8 +9,8 @@ use Rattle.stage.specs.Plan.{nothing}
 use Rattle.stage.specs.Draw.{near, depthPlan}
 use Rattle.triangle.proofs.Slots.{held-read, held-reads}
 use borrow.Author.Needs.{needs}
-use Rattle.stage.proofs.State.branch_z.Statement.{statement}
-use Rattle.stage.proofs.State.branch_z.Tie as tie
+use Rattle.stage.proofs.State.near.Statement.{statement}
+use Rattle.stage.proofs.State.near.Tie as tie
 
 sound-requires : tie.Need-sound-requires
 sound-requires c κs = tt
@@ -72,8 +72,8 @@ returns-4 c =
     (passed nothing _ _ _ _ _ _ _ (holds (held-reads 256 (a .self .loaded) (a .slot) (a .self .deep) false h) (e3 .if3 .left))
     (told (a .self) _ (bit (near (a .self) (a .slot) (a .threshold))) (c .word-of .ensures ∙ rw (c .before .wide-by-65536 .ensures, held-reads 256 (a .self .loaded) (a .slot) (a .self .z) nan h)))))
 
-pub branch-z-spec : {M : Type 1} → statement M
-branch-z-spec =
+pub near-spec : {M : Type 1} → statement M
+near-spec =
     tie.close
     (tie.spec
     sound-requires

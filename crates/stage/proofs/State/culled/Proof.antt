@@ -1,20 +1,23 @@
-use Prim.Native.Nat.{_+_, _-_}
+use mathlib.Core.Path.{_≡_, refl}
+use Prim.Native.Nat.{_+_, _-_, _<_}
 use native.Mathlib.Omega.{arith}
 use borrow.Author.Needs.{needs}
 use borrow.Author.Tests.{not-true, not-false}
 use Rattle.stage.proofs.Cascade.{fails, holds, refused, passed}
-use Rattle.stage.proofs.Culling.{rest, Walking, walk-none, walk-more, walk-stops, walk-ends}
+use Rattle.stage.proofs.Culling.{rest, few, walk-more, walk-stops, walk-ends}
+use Rattle.stage.specs.declared.State.{State}
 use Rattle.stage.specs.declared.Answer.the-variants.{BadState, BadCull}
 use Rattle.stage.specs.Plan.{nothing}
 use Rattle.stage.specs.Draw.{cullPlan}
-use Rattle.stage.proofs.State.cull_display_list.Statement.{statement}
-use Rattle.stage.proofs.State.cull_display_list.Tie as tie
+use Rattle.stage.proofs.State.culled.Statement.{statement}
+use Rattle.stage.proofs.State.culled.Tie as tie
 
 abbrev Inv-loop : tie.InvT-loop
-Inv-loop self first last loaded coded code common₀ i₀ common i = Walking self first last common i
+Inv-loop first last loaded coded code common₀ i₀ common i =
+    (last < 256) × ((s : State) → s .loaded ≡ loaded → s .coded ≡ coded → s .code ≡ code → rest s last 0x0f first ≡ rest s last common i)
 
 abbrev μ-loop : tie.MeasureT-loop
-μ-loop self first last loaded coded code common₀ i₀ common i = last + 1 - i
+μ-loop first last loaded coded code common₀ i₀ common i = last + 1 - i
 
 sound-requires : tie.Need-sound-requires Inv-loop μ-loop
 sound-requires c κs = tt
@@ -32,7 +35,7 @@ returns-2 c =
     (refused nothing _ _ _ _ (BadCull (a .first) (a .last)) (not-true _ (c .if2 .taken)))
 
 loop-holds : tie.Need-loop-holds Inv-loop μ-loop
-loop-holds c = walk-none _ _ _ (not-false _ (c .before .before .before .if2 .left))
+loop-holds c = (few _ _ (not-false _ (c .before .before .before .if2 .left)), λ s el ec eo. cc)
 
 cast-k : tie.Need-cast-k Inv-loop μ-loop
 cast-k c = search needs
@@ -56,7 +59,7 @@ returns-3 c =
     let e1 = e2 .before in
     passed nothing _ _ _ _ _ _ _ (holds (e1 .before .sound .ensures) (e1 .if1 .left))
     (passed nothing _ _ _ _ _ _ _ (not-false _ (e2 .if2 .left))
-    (walk-stops _ _ _ _ _ (c .before .before .before .loop .inv) (c .before .before .loop-test .taken) (not-true _ (c .before .if3 .taken)) _ (c .uncoded .ensures)))
+    (walk-stops _ _ _ _ _ (c .before .before .before .loop .inv .1 (e1 .before .before .args .self) refl refl refl) (c .before .before .loop-test .taken) (not-true _ (c .before .if3 .taken)) _ (c .uncoded .ensures)))
 
 array-read-common : tie.Need-array-read-common Inv-loop μ-loop
 array-read-common c = omega arith
@@ -68,7 +71,9 @@ loop-less : tie.Need-loop-less Inv-loop μ-loop
 loop-less c = omega arith
 
 loop-again : tie.Need-loop-again Inv-loop μ-loop
-loop-again c = walk-more _ _ _ _ _ (c .before .before .loop .inv) (c .before .loop-test .taken) (not-false _ (c .if3 .left))
+loop-again c =
+    let v = c .before .before .loop .inv in
+    (v .0, λ s el ec eo. rw (← eo) (walk-more s _ _ _ _ (v .1 s el ec eo) (c .before .loop-test .taken) (rw (el, ec) (not-false _ (c .if3 .left)))))
 
 word-of-requires : tie.Need-word-of-requires Inv-loop μ-loop
 word-of-requires c κs = tt
@@ -80,10 +85,10 @@ returns-4 c =
     let e1 = e2 .before in
     passed nothing _ _ _ _ _ _ _ (holds (e1 .before .sound .ensures) (e1 .if1 .left))
     (passed nothing _ _ _ _ _ _ _ (not-false _ (e2 .if2 .left))
-    (walk-ends _ _ _ _ _ (c .before .before .loop .inv) (c .before .loop-test .left) _ (c .word-of .ensures)))
+    (walk-ends _ _ _ _ _ (c .before .before .loop .inv .1 (e1 .before .before .args .self) refl refl refl) (c .before .loop-test .left) _ (c .word-of .ensures)))
 
-pub cull-display-list-spec : {M : Type 1} → statement M
-cull-display-list-spec =
+pub culled-spec : {M : Type 1} → statement M
+culled-spec =
     tie.close
     (tie.spec
     Inv-loop
