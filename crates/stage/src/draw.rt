@@ -69,7 +69,7 @@ fn corners_at(row: &[u32; 256], ever: &[bool; 256], a: u32, b: u32, c: u32) -> C
 }
 
 impl State {
-    // What the cull test answers.
+    // What the cull test answers; the state stays.
     fn culled(self, first: u32, last: u32) -> Answer
         ensures { λ r. ⌜ outcome (record { state = self; answer = r }) tt ≡ carry nothing (cullPlan (limit self) self first last) self tt ⌝ }
     {
@@ -96,7 +96,7 @@ impl State {
     }
 
     // Cull test: 1 where the slots first to last all lie outside one of the four side planes, else 0.
-    pub fn cull_display_list(self, first: u32, last: u32) -> Answered
+    pub fn cull_display_list(mut self, first: u32, last: u32) -> Answered
         ensures { λ r. ⌜ outcome r tt ≡ carry nothing (cullPlan (limit self) self first last) self tt ⌝ }
     {
         let answer = self.culled(first, last);
@@ -106,7 +106,7 @@ impl State {
         }
     }
 
-    // What the depth test answers.
+    // What the depth test answers; the state stays.
     fn near(self, slot: u32, threshold: u32) -> Answer
         ensures { λ r. ⌜ outcome (record { state = self; answer = r }) tt ≡ carry nothing (depthPlan (limit self) self slot threshold) self tt ⌝ }
     {
@@ -128,7 +128,7 @@ impl State {
     }
 
     // Depth test: 1 where the slot's screen z is at most the threshold over 65536, else 0.
-    pub fn branch_z(self, slot: u32, threshold: u32) -> Answered
+    pub fn branch_z(mut self, slot: u32, threshold: u32) -> Answered
         ensures { λ r. ⌜ outcome r tt ≡ carry nothing (depthPlan (limit self) self slot threshold) self tt ⌝ }
     {
         let answer = self.near(slot, threshold);
