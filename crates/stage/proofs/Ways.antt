@@ -181,10 +181,10 @@ module _ (s : State) (l : List Float) (count : ℕ) where
 -- ---- viewport
 
 -- the six numbers of an entry, as the code reads them
-abbrev sixOf : Viewport → List Float
+abbrev pub sixOf : Viewport → List Float
 sixOf v = getD (v .scale) 0 nan ∷ getD (v .scale) 1 nan ∷ getD (v .scale) 2 nan ∷ getD (v .translation) 0 nan ∷ getD (v .translation) 1 nan ∷ getD (v .translation) 2 nan ∷ []
 
-six : (bytes : List ℕ) (at : ℕ) → sixOf (viewportAt bytes at) ≡ viewportEntry bytes at
+pub six : (bytes : List ℕ) (at : ℕ) → sixOf (viewportAt bytes at) ≡ viewportEntry bytes at
 unfolding viewportAt tripleAt
 six bytes at = refl
 
@@ -195,18 +195,18 @@ viewport-refused s l at bytes m a e h o = early-refused s 2 viewportWidth (s .co
 
 -- past the first tests: what the code read, and what became of the entry
 module _ (s : State) (l : List Float) (at : ℕ) (bytes : List ℕ) (clear : Clear s viewportWidth (s .counts .viewports) 16 at bytes l)
-    (v : Viewport) (r : Append) (a : List Float)
-    (is-data : v ≡ viewportAt bytes at)
-    (did : record { how = r; area = a } ≡ ended viewportWidth (s .counts .viewports) (sixOf v) l) where
-  views : (o : Outcome (List Float)) → o ≡ carry area2 (viewing s (tableIn viewportArea (s .counts) l) (sixOf v)) s l → o ≡ carry area2 (viewportPlan s (tableIn viewportArea (s .counts) l) bytes at) s l
+    (v : List Float) (r : Append) (a : List Float)
+    (is-data : v ≡ viewportEntry bytes at)
+    (did : record { how = r; area = a } ≡ ended viewportWidth (s .counts .viewports) v l) where
+  views : (o : Outcome (List Float)) → o ≡ carry area2 (viewing s (tableIn viewportArea (s .counts) l) v) s l → o ≡ carry area2 (viewportPlan s (tableIn viewportArea (s .counts) l) bytes at) s l
   unfolding viewportPlan
-  views o h = passed-on s 2 _ _ _ _ _ l clear area2 _ o (h ∙ ap (λ (x : List Float). carry area2 (viewing s (tableIn viewportArea (s .counts) l) x) s l) (ap sixOf is-data ∙ six bytes at))
+  views o h = passed-on s 2 _ _ _ _ _ l clear area2 _ o (h ∙ ap (λ (x : List Float). carry area2 (viewing s (tableIn viewportArea (s .counts) l) x) s l) is-data)
 
   pub viewport-new : (q : Answer) → q ≡ Done → (x : ℕ) → x ≡ countAfter r (s .counts .viewports) → Fits r
-      → outcome (record { state = withCounts (withViewport s (sixOf v)) (counts2 (s .counts) x); answer = q }) a ≡ carry area2 (viewportPlan s (tableIn viewportArea (s .counts) l) bytes at) s l
+      → outcome (record { state = withCounts (withViewport s v) (counts2 (s .counts) x); answer = q }) a ≡ carry area2 (viewportPlan s (tableIn viewportArea (s .counts) l) bytes at) s l
   unfolding viewing
-  viewport-new q d x e o = views _ (entry-new 2 viewportWidth (s .counts .viewports) edits2 area2 s (withViewport s (sixOf v)) (sixOf v) l r a did (λ d. refl) (counts2 (s .counts)) (λ d. refl) (clear .fits) q d x e o)
+  viewport-new q d x e o = views _ (entry-new 2 viewportWidth (s .counts .viewports) edits2 area2 s (withViewport s v) v l r a did (λ d. refl) (counts2 (s .counts)) (λ d. refl) (clear .fits) q d x e o)
 
   pub viewport-full : r ≡ Full → outcome (record { state = s; answer = NoRoom 2 }) a ≡ carry area2 (viewportPlan s (tableIn viewportArea (s .counts) l) bytes at) s l
   unfolding viewing
-  viewport-full h = views _ (entry-full 2 viewportWidth (s .counts .viewports) edits2 area2 s (withViewport s (sixOf v)) (sixOf v) l r a did (λ d. refl) h)
+  viewport-full h = views _ (entry-full 2 viewportWidth (s .counts .viewports) edits2 area2 s (withViewport s v) v l r a did (λ d. refl) h)

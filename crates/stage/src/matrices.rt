@@ -1,6 +1,7 @@
 // Opening, the matrix stack, the viewport and the geometry mode.
 ghost use mathlib.Core.Path.{_≡_};
-ghost use Prim.Native.Nat.{_-_, _*_, _≤_};
+ghost use Prim.Native.Nat.{_+_, _-_, _*_, _≤_};
+ghost use lib.ListN.{length};
 ghost use mathlib.Core.Bool.{false};
 ghost use Rattle.areas.specs.Area.{put};
 ghost use Rattle.areas.specs.Widths.{most, matrixWidth};
@@ -12,7 +13,7 @@ ghost use Rattle.stage.specs.Plan.{outcome, carry, nothing, pick, matrix
 ghost use Rattle.numbers.specs.Choice.{all};
 ghost use Rattle.stage.specs.Sound.{countTests, stateSound};
 ghost use Rattle.stage.specs.Opening.{blank, opened, openingPlan, areas12};
-ghost use Rattle.stage.specs.Matrices.{area1, area2, matrixPlan, forcePlan, popPlan, viewportPlan, geometryPlan};
+ghost use Rattle.stage.specs.Matrices.{area1, area2, matrixPlan, forcePlan, popPlan, viewportEntry, viewportPlan, geometryPlan};
 ghost use Rattle.stage.specs.Steps.{earlyIn, countAfter};
 use crate::Answer;
 use crate::Answered;
@@ -187,6 +188,24 @@ fn count_after(how: Append, n: u32) -> u32
     }
 }
 
+// The entry of table 2 that 16 bytes hold. Asks for them, since the data has been judged by then.
+fn viewport_at(data: &[u8], at: usize) -> [f32; 6]
+    requires { ⌜ at + 16 ≤ length (now «data») ⌝ }
+    ensures { λ r. ⌜ r ≡ viewportEntry (now («data» .entry)) at ⌝ }
+{
+    let v = layout::viewport(data, at);
+    let scale = v.scale;
+    let translation = v.translation;
+    [
+        scale[0],
+        scale[1],
+        scale[2],
+        translation[0],
+        translation[1],
+        translation[2],
+    ]
+}
+
 impl State {
     // Whether the state's own numbers are in their ranges.
     pub fn sound(self) -> bool
@@ -359,17 +378,7 @@ impl State {
         let room = areas::room_of(VIEWPORT_WIDTH, viewports.len());
         let mut answer = self.early_in(data.len(), at, 16, 2, n, room);
         if let Answer::Done = answer {
-            let v = layout::viewport(data, at);
-            let scale = v.scale;
-            let translation = v.translation;
-            let entry = [
-                scale[0],
-                scale[1],
-                scale[2],
-                translation[0],
-                translation[1],
-                translation[2],
-            ];
+            let entry = viewport_at(data, at);
             let how = decide::append::append_f32(viewports, VIEWPORT_WIDTH, n, &entry);
             if let Append::Full = how {
                 answer = Answer::NoRoom(2);

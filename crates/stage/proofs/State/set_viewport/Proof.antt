@@ -14,7 +14,7 @@ abbrev start : tie.After-early-in → tie.Start
 start c = c .before .before .before .before
 
 abbrev matched : tie.After-slice-known2 → tie.At-match-keys1
-matched c = c .before .before .before .before .before .before .before .before .before
+matched c = c .before .before .before .before .before .before .before
 
 -- the first tests are passed
 clear : (c : tie.At-match-keys1) → let a = start (c .before) .args in Clear (a .self) viewportWidth (a .self .counts .viewports) 16 (a .at) (now (a .«data»)) (now (a .viewports))
@@ -31,26 +31,8 @@ early-in-requires c κs = tt
 enum-told : tie.Need-enum-told
 enum-told c = search needs
 
-viewport-requires : tie.Need-viewport-requires
-viewport-requires c κs = leb-true _ _ (clear (c .before) .reach)
-
-array-read-t17 : tie.Need-array-read-t17
-array-read-t17 c = search needs
-
-array-read-t20 : tie.Need-array-read-t20
-array-read-t20 c = search needs
-
-array-read-t23 : tie.Need-array-read-t23
-array-read-t23 c = search needs
-
-array-read-t26 : tie.Need-array-read-t26
-array-read-t26 c = search needs
-
-array-read-t29 : tie.Need-array-read-t29
-array-read-t29 c = search needs
-
-array-read-t32 : tie.Need-array-read-t32
-array-read-t32 c = search needs
+viewport-at-requires : tie.Need-viewport-at-requires
+viewport-at-requires c κs = leb-true _ _ (clear (c .before) .reach)
 
 slice-aggregate-append-f32 : tie.Need-slice-aggregate-append-f32
 slice-aggregate-append-f32 c = search needs
@@ -70,7 +52,7 @@ same-length c = search needs
 returns : tie.Need-returns
 returns c =
     let d = c .before .before in
-    viewport-full _ _ _ _ (clear (matched d)) _ _ _ (d .before .before .before .before .before .before .before .viewport .ensures) (d .before .before .append-f32 .ensures) (c .enum-told2 .given .1)
+    viewport-full _ _ _ _ (clear (matched d)) _ _ _ (d .before .before .before .before .before .viewport-at .ensures) (d .before .before .append-f32 .ensures) (c .enum-told2 .given .1)
 
 same-length-2 : tie.Need-same-length-2
 same-length-2 c = search needs
@@ -78,8 +60,8 @@ same-length-2 c = search needs
 returns-2 : tie.Need-returns-2
 returns-2 c =
     let d = c .before .before .before in
-    viewport-new _ _ _ _ (clear (matched d)) _ _ _ (d .before .before .before .before .before .before .before .viewport .ensures) (d .before .before .append-f32 .ensures) _
-    (d .before .before .before .before .before .before .before .before .enum-told .given .1) _ (c .before .count-after .ensures) (c .before .before .match2 .keys2)
+    viewport-new _ _ _ _ (clear (matched d)) _ _ _ (d .before .before .before .before .before .viewport-at .ensures) (d .before .before .append-f32 .ensures) _
+    (d .before .before .before .before .before .before .enum-told .given .1) _ (c .before .count-after .ensures) (c .before .before .match2 .keys2)
 
 returns-3 : tie.Need-returns-3
 returns-3 c = viewport-refused _ _ _ _ _ _ (c .before .before .room-of .ensures) (c .before .early-in .ensures) (c .match .keys2)
@@ -91,13 +73,7 @@ set-viewport-spec =
     room-of-requires
     early-in-requires
     enum-told
-    viewport-requires
-    array-read-t17
-    array-read-t20
-    array-read-t23
-    array-read-t26
-    array-read-t29
-    array-read-t32
+    viewport-at-requires
     slice-aggregate-append-f32
     append-f32-requires
     enum-told-2
