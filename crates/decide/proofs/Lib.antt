@@ -2,4 +2,5 @@ pub mod Ends
 pub mod Rules
 pub mod Shorts
 pub mod Slots
+pub mod Turning
 pub mod Cells

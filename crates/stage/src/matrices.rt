@@ -1,12 +1,9 @@
 // Opening, the matrix stack, the viewport and the geometry mode.
 ghost use mathlib.Core.Path.{_≡_};
-ghost use Prim.Native.Nat.{_-_, _*_, _≤_};
+ghost use Prim.Native.Nat.{_≤_};
 ghost use mathlib.Core.Bool.{false};
-ghost use Rattle.areas.specs.Area.{put};
-ghost use Rattle.areas.specs.Widths.{most, matrixWidth};
-ghost use Rattle.matrix.specs.Math.{rows, laid, times};
+ghost use Rattle.areas.specs.Widths.{most};
 ghost use Rattle.decide.specs.Family.{familyOf};
-ghost use Rattle.decide.specs.Stack.{made, pushed};
 ghost use Rattle.stage.specs.declared.Answer.the-variants.{Done, BadState};
 ghost use Rattle.stage.specs.Plan.{outcome, carry, nothing, pick, matrixArea, viewportArea, tableIn};
 ghost use Rattle.numbers.specs.Choice.{all};
@@ -132,49 +129,6 @@ fn sound_counts(c: Counts) -> bool
         & (c.runs <= MOST)
 }
 
-// A matrix taken: the depth and the projection then.
-pub struct Turned {
-    pub depth: u32,
-    pub projection: [f32; 16],
-}
-
-// The data m taken as projection, or as top of the stack. Asks for a depth in its range.
-fn turn(
-    push: bool,
-    load: bool,
-    projecting: bool,
-    m: [[f32; 4]; 4],
-    stack: &mut [f32; 512],
-    projection: [f32; 16],
-    depth: u32,
-) -> Turned
-    requires { ⌜ (1 ≤ depth) × (depth ≤ 32) ⌝ }
-    ensures { λ r. ⌜ (r .depth ≡ pick projecting depth (pushed push depth)) × (r .projection ≡ pick projecting (laid (made load m (rows projection 0))) projection) × (now (stack .exit) ≡ pick projecting (now (stack .entry)) (put (now (stack .entry)) (matrixWidth * (pushed push depth - 1)) (laid (made load m (rows (now (stack .entry)) (matrixWidth * (depth - 1))))))) ⌝ }
-{
-    if projecting {
-        let made = decide::stack::made_of(load, m, matrix::math::from_flat(projection));
-        return Turned {
-            depth: depth,
-            projection: matrix::math::to_flat(made),
-        };
-    }
-    let made = decide::stack::made_of(load, m, decide::stack::top_at(stack, depth));
-    let d = decide::stack::pushed_depth(push, depth);
-    let flat = matrix::math::to_flat(made);
-    areas::put_f32(stack, 16 * ((d - 1) as usize), &flat);
-    Turned {
-        depth: d,
-        projection: projection,
-    }
-}
-
-// A top of the stack times a projection, flat.
-pub(crate) fn product_of(top: [[f32; 4]; 4], projection: [f32; 16]) -> [f32; 16]
-    ensures { λ r. ⌜ r ≡ laid (times top (rows projection 0)) ⌝ }
-{
-    matrix::math::to_flat(matrix::math::mul4(top, matrix::math::from_flat(projection)))
-}
-
 // A table's count once an entry was appended, or kept, or had no room. Asks for a count that does not wrap.
 fn count_after(how: Append, n: u32) -> u32
     requires { ⌜ n ≤ most ⌝ }
@@ -266,13 +220,10 @@ impl State {
         if let Answer::Done = answer {
             let m = layout::matrix(data, at);
             let f = flags as u32;
-            let push = decide::judge::has_flag(family.push, f);
-            let load = decide::judge::has_flag(family.load, f);
-            let projecting = decide::judge::has_flag(family.projection, f);
             let p = self.projection;
-            let t = turn(push, load, projecting, m, &mut stack, p, self.depth);
+            let t = decide::stack::take(family, f, m, &mut stack, p, self.depth);
             let projection = t.projection;
-            let product = product_of(decide::stack::top_at(&stack, t.depth), projection);
+            let product = t.product;
             let how = decide::append::append_f32(matrices, MATRIX_WIDTH, n, &product);
             if let Append::Full = how {
                 answer = Answer::NoRoom(1);
@@ -333,7 +284,7 @@ impl State {
             due = d != self.depth;
         }
         if due {
-            let product = product_of(decide::stack::top_at(&stack, d), p);
+            let product = decide::stack::product_of(decide::stack::top_at(&stack, d), p);
             let how = decide::append::append_f32(matrices, MATRIX_WIDTH, n, &product);
             if let Append::Full = how {
                 answer = Answer::NoRoom(1);
