@@ -5,10 +5,11 @@ ghost use mathlib.Core.Bool.{false};
 ghost use Rattle.areas.specs.Widths.{most};
 ghost use Rattle.decide.specs.Family.{familyOf};
 ghost use Rattle.stage.specs.declared.Answer.the-variants.{Done, BadState};
-ghost use Rattle.stage.specs.Plan.{outcome, carry, nothing, pick, matrixArea, viewportArea, tableIn};
+ghost use Rattle.stage.specs.Plan.{advance, outcome, carry, nothing, pick, matrixArea, viewportArea, tableIn};
 ghost use Rattle.numbers.specs.Choice.{all};
+ghost use Rattle.stage.specs.With.{withCounts};
 ghost use Rattle.stage.specs.Sound.{countTests, stateSound};
-ghost use Rattle.stage.specs.Opening.{blank, opened, openingPlan, areas12};
+ghost use Rattle.stage.specs.Opening.{blank, opened, openingEdits, openingPlan, areas12};
 ghost use Rattle.stage.specs.Matrices.{area1, area2, matrixPlan, forcePlan, popPlan, viewportPlan, geometryPlan};
 ghost use Rattle.stage.specs.Steps.{earlyIn, countAfter};
 use crate::Answer;
@@ -23,9 +24,9 @@ use areas::widths::MOST;
 use areas::widths::VIEWPORT_WIDTH;
 use decide::append::Append;
 
-// A state with every number zero, every mark cleared and every slot empty.
-fn blank_state(mark: bool) -> State
-    ensures { λ r. ⌜ r ≡ blank mark ⌝ }
+// A state with every other number zero, every other mark cleared and every slot empty.
+fn blank_state(mark: bool, used: u32) -> State
+    ensures { λ r. ⌜ r ≡ withCounts (blank mark) (record { matrices = used; viewports = used; scales = 0; lights = 0; lookats = 0; fogs = 0; rows = 0; indices = 0; runs = 0 }) ⌝ }
 {
     State {
         opened: mark,
@@ -64,8 +65,8 @@ fn blank_state(mark: bool) -> State
             place: 0,
         },
         counts: Counts {
-            matrices: 0,
-            viewports: 0,
+            matrices: used,
+            viewports: used,
             scales: 0,
             lights: 0,
             lookats: 0,
@@ -88,12 +89,12 @@ fn blank_state(mark: bool) -> State
 
 // The state that opening hands back where there is room.
 fn opened_state() -> State
-    ensures { λ r. ⌜ r ≡ opened ⌝ }
+    ensures { λ r. ⌜ r ≡ withCounts opened (advance openingEdits (blank false .counts)) ⌝ }
 {
     let one = matrix::math::to_flat(matrix::math::identity());
     let mut stack = [0.0f32; 512];
     areas::put_f32(&mut stack, 0, &one);
-    let mut s = blank_state(true);
+    let mut s = blank_state(true, 1);
     s.depth = 1;
     s.stack = stack;
     s.projection = one;
@@ -157,27 +158,15 @@ impl State {
     pub fn opening(matrices: &mut [f32], viewports: &mut [f32]) -> Answered
         ensures { λ r. ⌜ outcome r (now (matrices .exit), now (viewports .exit)) ≡ carry areas12 (openingPlan (now (matrices .entry)) (now (viewports .entry))) (blank false) (now (matrices .entry), now (viewports .entry)) ⌝ }
     {
-        if areas::room_of(MATRIX_WIDTH, matrices.len()) < 1 {
+        let short = decide::append::put_first(matrices, viewports);
+        if 0 < short {
             return Answered {
-                state: blank_state(false),
-                answer: Answer::NoRoom(1),
+                state: blank_state(false, 0),
+                answer: Answer::NoRoom(short),
             };
         }
-        if areas::room_of(VIEWPORT_WIDTH, viewports.len()) < 1 {
-            return Answered {
-                state: blank_state(false),
-                answer: Answer::NoRoom(2),
-            };
-        }
-        let one = matrix::math::to_flat(matrix::math::identity());
-        let none = [0.0f32; 6];
-        areas::put_f32(matrices, 0, &one);
-        areas::put_f32(viewports, 0, &none);
-        let mut s = opened_state();
-        s.counts.matrices = 1;
-        s.counts.viewports = 1;
         Answered {
-            state: s,
+            state: opened_state(),
             answer: Answer::Done,
         }
     }
