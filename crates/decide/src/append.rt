@@ -1,16 +1,21 @@
 // An entry appended to a table, unless the last entry compares equal to it.
 ghost use mathlib.Core.Path.{_≡_};
-ghost use lib.ListN.{length};
+ghost use lib.ListN.{length, replicate};
+ghost use lib.Dec.{leb};
+ghost use mathlib.Core.Bool.{_&&_};
 ghost use mathlib.Core.List.{[], _∷_};
 ghost use Prim.Native.Nat.{_≤_};
 ghost use lib.Ieee.{eq};
-ghost use Rattle.areas.specs.Area.{entries, matches};
-ghost use Rattle.areas.specs.Widths.{most, matrixWidth, scaleWidth, fogWidth};
+ghost use Rattle.numbers.specs.Choice.{pick, unless};
+ghost use Rattle.areas.specs.Area.{entries, matches, room, put};
+ghost use Rattle.areas.specs.Widths.{most, matrixWidth, viewportWidth, scaleWidth, fogWidth};
+ghost use Rattle.matrix.specs.Math.{zero, identity, laid};
 ghost use Rattle.decide.specs.Append.{final, onlyIf};
 ghost use Rattle.decide.specs.Steps.{Ended, ended, Put, putBy};
 use areas::widths::FOG_WIDTH;
 use areas::widths::MATRIX_WIDTH;
 use areas::widths::SCALE_WIDTH;
+use areas::widths::VIEWPORT_WIDTH;
 
 // What became of the entry: it was there last, or it was appended, or there was no room for it.
 pub enum Append {
@@ -91,4 +96,23 @@ pub fn put_fog_if(need: bool, fogs: &mut [i16], used: u32, multiplier: i16, offs
 {
     let pair = [multiplier, offset];
     put_i16_if(need, fogs, FOG_WIDTH, used, &pair)
+}
+
+// Identity as first matrix and zeros as first viewport, where both areas have room: 0, or the number of the first table that has none.
+pub fn put_first(matrices: &mut [f32], viewports: &mut [f32]) -> u32
+    ensures short { λ r. ⌜ r ≡ unless (leb 1 (room matrixWidth (length (now (matrices .entry))))) 1 (unless (leb 1 (room viewportWidth (length (now (viewports .entry))))) 2 0) ⌝ }
+    ensures matrices { λ r. ⌜ now (matrices .exit) ≡ pick (leb 1 (room matrixWidth (length (now (matrices .entry)))) && leb 1 (room viewportWidth (length (now (viewports .entry))))) (put (now (matrices .entry)) 0 (laid identity)) (now (matrices .entry)) ⌝ }
+    ensures viewports { λ r. ⌜ now (viewports .exit) ≡ pick (leb 1 (room matrixWidth (length (now (matrices .entry)))) && leb 1 (room viewportWidth (length (now (viewports .entry))))) (put (now (viewports .entry)) 0 (replicate 6 zero)) (now (viewports .entry)) ⌝ }
+{
+    if areas::room_of(MATRIX_WIDTH, matrices.len()) < 1 {
+        return 1;
+    }
+    if areas::room_of(VIEWPORT_WIDTH, viewports.len()) < 1 {
+        return 2;
+    }
+    let one = matrix::math::to_flat(matrix::math::identity());
+    let none = [0.0f32; 6];
+    areas::put_f32(matrices, 0, &one);
+    areas::put_f32(viewports, 0, &none);
+    0
 }

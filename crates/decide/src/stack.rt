@@ -1,8 +1,11 @@
 // The model stack and the geometry mode word.
 ghost use mathlib.Core.Path.{_≡_};
 ghost use Prim.Native.Nat.{_+_, _-_, _*_, _≤_};
+ghost use Rattle.numbers.specs.Choice.{pick};
+ghost use Rattle.areas.specs.Area.{put};
 ghost use Rattle.areas.specs.Widths.{matrixWidth};
-ghost use Rattle.matrix.specs.Math.{rows};
+ghost use Rattle.matrix.specs.Math.{rows, laid, times};
+ghost use Rattle.decide.specs.Family.{flag};
 ghost use Rattle.decide.specs.Stack.{made, pushed, popped, geometryAfter, relit};
 use crate::family::Family;
 use areas::widths::MATRIX_WIDTH;
@@ -61,6 +64,84 @@ pub fn top_at(s: &[f32; 512], depth: u32) -> [[f32; 4]; 4]
         return t;
     }
     top_of(s, depth)
+}
+
+// A matrix taken: the depth and the projection then.
+pub struct Turned {
+    pub depth: u32,
+    pub projection: [f32; 16],
+}
+
+// The data m taken as projection, or as top of the stack. Asks for a depth in its range.
+fn turn(
+    push: bool,
+    load: bool,
+    projecting: bool,
+    m: [[f32; 4]; 4],
+    stack: &mut [f32; 512],
+    projection: [f32; 16],
+    depth: u32,
+) -> Turned
+    requires { ⌜ (1 ≤ depth) × (depth ≤ 32) ⌝ }
+    ensures { λ r. ⌜ (r .depth ≡ pick projecting depth (pushed push depth)) × (r .projection ≡ pick projecting (laid (made load m (rows projection 0))) projection) × (now (stack .exit) ≡ pick projecting (now (stack .entry)) (put (now (stack .entry)) (matrixWidth * (pushed push depth - 1)) (laid (made load m (rows (now (stack .entry)) (matrixWidth * (depth - 1))))))) ⌝ }
+{
+    if projecting {
+        let made = made_of(load, m, matrix::math::from_flat(projection));
+        return Turned {
+            depth: depth,
+            projection: matrix::math::to_flat(made),
+        };
+    }
+    let made = made_of(load, m, top_at(stack, depth));
+    let d = pushed_depth(push, depth);
+    let flat = matrix::math::to_flat(made);
+    areas::put_f32(stack, 16 * ((d - 1) as usize), &flat);
+    Turned {
+        depth: d,
+        projection: projection,
+    }
+}
+
+// A top of the stack times a projection, flat.
+pub fn product_of(top: [[f32; 4]; 4], projection: [f32; 16]) -> [f32; 16]
+    ensures { λ r. ⌜ r ≡ laid (times top (rows projection 0)) ⌝ }
+{
+    matrix::math::to_flat(matrix::math::mul4(top, matrix::math::from_flat(projection)))
+}
+
+// A matrix taken by the flags of a word: the depth, the projection and the top times it then.
+pub struct Taken {
+    pub depth: u32,
+    pub projection: [f32; 16],
+    pub product: [f32; 16],
+}
+
+// The data m taken as the flags say. Asks for a depth in its range.
+pub fn take(
+    family: Family,
+    flags: u32,
+    m: [[f32; 4]; 4],
+    stack: &mut [f32; 512],
+    projection: [f32; 16],
+    depth: u32,
+) -> Taken
+    requires { ⌜ (1 ≤ depth) × (depth ≤ 32) ⌝ }
+    ensures depth { λ r. ⌜ r .depth ≡ pick (flag (family .projection) flags) depth (pushed (flag (family .push) flags) depth) ⌝ }
+    ensures projection { λ r. ⌜ r .projection ≡ pick (flag (family .projection) flags) (laid (made (flag (family .load) flags) m (rows projection 0))) projection ⌝ }
+    ensures stack { λ r. ⌜ now (stack .exit) ≡ pick (flag (family .projection) flags) (now (stack .entry)) (put (now (stack .entry)) (matrixWidth * (pushed (flag (family .push) flags) depth - 1)) (laid (made (flag (family .load) flags) m (rows (now (stack .entry)) (matrixWidth * (depth - 1)))))) ⌝ }
+    ensures product { λ r. ⌜ r .product ≡ laid (times (rows (now (stack .exit)) (matrixWidth * (r .depth - 1))) (rows (r .projection) 0)) ⌝ }
+{
+    let push = crate::judge::has_flag(family.push, flags);
+    let load = crate::judge::has_flag(family.load, flags);
+    let projecting = crate::judge::has_flag(family.projection, flags);
+    let t = turn(push, load, projecting, m, stack, projection, depth);
+    let p = t.projection;
+    let product = product_of(top_at(stack, t.depth), p);
+    Taken {
+        depth: t.depth,
+        projection: p,
+        product: product,
+    }
 }
 
 // The geometry mode word: (old AND off) OR on.

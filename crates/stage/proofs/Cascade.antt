@@ -1,12 +1,12 @@
 -- How a plan goes by its tests: a refusal where one fails, what comes after where it holds. Assumes nothing.
 use mathlib.Core.Path.{_≡_, sym, _∙_}
 use mathlib.Core.Logic.{_⊎_, ⊎-elim}
-use Prim.Native.Nat.{ℕ, _+_, _≤_, _<_}
+use Prim.Native.Nat.{ℕ, _+_, _≤_}
 use mathlib.Core.Bool.{Bool, true, false, not, _&&_, false≢true}
 use mathlib.Core.List.{List, [], _∷_}
 use lib.ListN.{length}
 use lib.Dec.{leb}
-use borrow.Author.Tests.{not-true, not-false, leb-true, le-leb, lt-leb}
+use borrow.Author.Tests.{not-true, not-false, leb-true}
 use Rattle.areas.specs.Area.{entries, room}
 use Rattle.areas.proofs.Tables.{length-entries}
 use Rattle.stage.specs.declared.State.{State}
@@ -84,10 +84,3 @@ reached {d} b m len e h = leb-true m len (sym e ∙ and-right b d h)
 -- what the code finds of a table, by its count and the room it worked out, is what the judge asks
 pub table-holds : {A : Type 0} (w n k m : ℕ) (l : List A) (r : Bool) → m ≡ room w (length l) → r ≡ leb (n + k) m → r ≡ leb (length (entries w n l) + k) (room w (length l))
 table-holds w n k m l r e h = h ∙ rw (e, length-entries w n l)
-
--- a table with nothing in use has room for one entry, or has not
-pub no-room : (w len m : ℕ) → m ≡ room w len → m < 1 → leb 1 (room w len) ≡ false
-no-room w len m e h = rw (← e) (lt-leb 1 m h)
-
-pub some-room : (w len m : ℕ) → m ≡ room w len → 1 ≤ m → leb 1 (room w len) ≡ true
-some-room w len m e h = rw (← e) (le-leb 1 m h)

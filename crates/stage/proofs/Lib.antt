@@ -11,6 +11,7 @@ pub mod Judged
 pub mod Lighting
 pub mod Loading
 pub mod Modifying
+pub mod Opens
 pub mod RowEntries
 pub mod Settling
 pub mod Tabled

@@ -1,7 +1,7 @@
 -- Matrix, forced matrix, pop and viewport: each way out, by what the steps of its code answered. Assumes nothing.
 use mathlib.Core.Path.{_≡_, refl, sym, ap, ap₂, _∙_}
 use Prim.Native.Nat.{ℕ, _-_, _*_, _≤_}
-use mathlib.Core.Bool.{Bool, true, false}
+use mathlib.Core.Bool.{true, false}
 use mathlib.Core.List.{List, [], _∷_}
 use lib.ListN.{length, getD}
 use lib.Dec.{eqb}
@@ -70,32 +70,28 @@ matrix-refused s l flags at bytes m a e h o = early-refused s 1 matrixWidth (s .
 
 -- past the first tests: what the code read, took and combined, and what became of the entry
 module _ (s : State) (l : List Float) (flags at : ℕ) (bytes : List ℕ) (clear : Clear s matrixWidth (s .counts .matrices) 64 at bytes l)
-    (f : Family) (push load projecting : Bool) (given : List (List Float)) (depth : ℕ) (projection stack : List Float) (top : List (List Float)) (m : List Float) (r : Append) (a : List Float)
+    (f : Family) (given : List (List Float)) (depth : ℕ) (projection stack m : List Float) (r : Append) (a : List Float)
     (is-family : f ≡ familyOf (s .microcode))
-    (is-push : push ≡ flag (f .push) flags)
-    (is-load : load ≡ flag (f .load) flags)
-    (is-projecting : projecting ≡ flag (f .projection) flags)
     (is-data : given ≡ matrixAt bytes at)
-    (is-depth : depth ≡ pick projecting (s .depth) (pushed push (s .depth)))
-    (is-projection : projection ≡ pick projecting (laid (made load given (rows (s .projection) 0))) (s .projection))
-    (is-stack : stack ≡ pick projecting (s .stack) (put (s .stack) (matrixWidth * (pushed push (s .depth) - 1)) (laid (made load given (rows (s .stack) (matrixWidth * (s .depth - 1)))))))
-    (is-top : top ≡ rows stack (matrixWidth * (depth - 1)))
-    (is-product : m ≡ laid (times top (rows projection 0)))
+    (is-depth : depth ≡ pick (flag (f .projection) flags) (s .depth) (pushed (flag (f .push) flags) (s .depth)))
+    (is-projection : projection ≡ pick (flag (f .projection) flags) (laid (made (flag (f .load) flags) given (rows (s .projection) 0))) (s .projection))
+    (is-stack : stack ≡ pick (flag (f .projection) flags) (s .stack) (put (s .stack) (matrixWidth * (pushed (flag (f .push) flags) (s .depth) - 1)) (laid (made (flag (f .load) flags) given (rows (s .stack) (matrixWidth * (s .depth - 1)))))))
+    (is-product : m ≡ laid (times (rows stack (matrixWidth * (depth - 1))) (rows projection 0)))
     (did : record { how = r; area = a } ≡ ended matrixWidth (s .counts .matrices) m l) where
   abbrev taken : State
   taken = withModel (withProjection s projection) depth stack
 
-  abbrev planned : State
-  planned = let g = familyOf (s .microcode) in turned (flag (g .push) flags) (flag (g .load) flags) (flag (g .projection) flags) s (matrixAt bytes at)
+  abbrev turnedBy : Family → List (List Float) → State
+  turnedBy g x = turned (flag (g .push) flags) (flag (g .load) flags) (flag (g .projection) flags) s x
 
-  by-flags : (g : Family) → f ≡ g → turned push load projecting s given ≡ turned (flag (g .push) flags) (flag (g .load) flags) (flag (g .projection) flags) s (matrixAt bytes at)
-  by-flags g e = rw (is-push, is-load, is-projecting, is-data, e)
+  abbrev planned : State
+  planned = turnedBy (familyOf (s .microcode)) (matrixAt bytes at)
 
   is-taken : taken ≡ planned
-  is-taken = turned-is push load projecting s given depth projection stack is-depth is-projection is-stack ∙ by-flags (familyOf (s .microcode)) is-family
+  is-taken = turned-is _ _ _ s given depth projection stack is-depth is-projection is-stack ∙ ap₂ turnedBy is-family is-data
 
   is-combined : m ≡ product planned
-  is-combined = is-product ∙ ap (λ (x : List (List Float)). laid (times x (rows projection 0))) is-top ∙ ap product is-taken
+  is-combined = is-product ∙ ap product is-taken
 
   pub matrix-new : (q : Answer) → q ≡ Done → (x : ℕ) → x ≡ countAfter r (s .counts .matrices) → Fits r
       → outcome (record { state = withCounts (withCombined taken m true) (counts1 (s .counts) x); answer = q }) a ≡ carry area1 (matrixPlan (familyOf (s .microcode)) s (tableIn matrixArea (s .counts) l) flags bytes at) s l

@@ -201,7 +201,7 @@ fn combined_now(
     if defined {
         combined
     } else {
-        crate::matrices::product_of(top, projection)
+        decide::stack::product_of(top, projection)
     }
 }
 

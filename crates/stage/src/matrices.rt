@@ -1,18 +1,16 @@
 // Opening, the matrix stack, the viewport and the geometry mode.
 ghost use mathlib.Core.Path.{_≡_};
-ghost use Prim.Native.Nat.{_+_, _-_, _*_, _≤_};
+ghost use Prim.Native.Nat.{_+_, _≤_};
 ghost use lib.ListN.{length};
 ghost use mathlib.Core.Bool.{false};
-ghost use Rattle.areas.specs.Area.{put};
-ghost use Rattle.areas.specs.Widths.{most, matrixWidth};
-ghost use Rattle.matrix.specs.Math.{rows, laid, times};
+ghost use Rattle.areas.specs.Widths.{most};
 ghost use Rattle.decide.specs.Family.{familyOf};
-ghost use Rattle.decide.specs.Stack.{made, pushed};
 ghost use Rattle.stage.specs.declared.Answer.the-variants.{Done, BadState};
-ghost use Rattle.stage.specs.Plan.{outcome, carry, nothing, pick, matrixArea, viewportArea, tableIn};
+ghost use Rattle.stage.specs.Plan.{advance, outcome, carry, nothing, pick, matrixArea, viewportArea, tableIn};
 ghost use Rattle.numbers.specs.Choice.{all};
+ghost use Rattle.stage.specs.With.{withCounts};
 ghost use Rattle.stage.specs.Sound.{countTests, stateSound};
-ghost use Rattle.stage.specs.Opening.{blank, opened, openingPlan, areas12};
+ghost use Rattle.stage.specs.Opening.{blank, opened, openingEdits, openingPlan, areas12};
 ghost use Rattle.stage.specs.Matrices.{area1, area2, matrixPlan, forcePlan, popPlan, viewportEntry, viewportPlan, geometryPlan};
 ghost use Rattle.stage.specs.Steps.{earlyIn, countAfter};
 use crate::Answer;
@@ -27,9 +25,9 @@ use areas::widths::MOST;
 use areas::widths::VIEWPORT_WIDTH;
 use decide::append::Append;
 
-// A state with every number zero, every mark cleared and every slot empty.
-fn blank_state(mark: bool) -> State
-    ensures { λ r. ⌜ r ≡ blank mark ⌝ }
+// A state with every other number zero, every other mark cleared and every slot empty.
+fn blank_state(mark: bool, used: u32) -> State
+    ensures { λ r. ⌜ r ≡ withCounts (blank mark) (record { matrices = used; viewports = used; scales = 0; lights = 0; lookats = 0; fogs = 0; rows = 0; indices = 0; runs = 0 }) ⌝ }
 {
     State {
         opened: mark,
@@ -68,8 +66,8 @@ fn blank_state(mark: bool) -> State
             place: 0,
         },
         counts: Counts {
-            matrices: 0,
-            viewports: 0,
+            matrices: used,
+            viewports: used,
             scales: 0,
             lights: 0,
             lookats: 0,
@@ -92,12 +90,12 @@ fn blank_state(mark: bool) -> State
 
 // The state that opening hands back where there is room.
 fn opened_state() -> State
-    ensures { λ r. ⌜ r ≡ opened ⌝ }
+    ensures { λ r. ⌜ r ≡ withCounts opened (advance openingEdits (blank false .counts)) ⌝ }
 {
     let one = matrix::math::to_flat(matrix::math::identity());
     let mut stack = [0.0f32; 512];
     areas::put_f32(&mut stack, 0, &one);
-    let mut s = blank_state(true);
+    let mut s = blank_state(true, 1);
     s.depth = 1;
     s.stack = stack;
     s.projection = one;
@@ -131,49 +129,6 @@ fn sound_counts(c: Counts) -> bool
         & (c.rows <= MOST)
         & (c.indices <= MOST)
         & (c.runs <= MOST)
-}
-
-// A matrix taken: the depth and the projection then.
-pub struct Turned {
-    pub depth: u32,
-    pub projection: [f32; 16],
-}
-
-// The data m taken as projection, or as top of the stack. Asks for a depth in its range.
-fn turn(
-    push: bool,
-    load: bool,
-    projecting: bool,
-    m: [[f32; 4]; 4],
-    stack: &mut [f32; 512],
-    projection: [f32; 16],
-    depth: u32,
-) -> Turned
-    requires { ⌜ (1 ≤ depth) × (depth ≤ 32) ⌝ }
-    ensures { λ r. ⌜ (r .depth ≡ pick projecting depth (pushed push depth)) × (r .projection ≡ pick projecting (laid (made load m (rows projection 0))) projection) × (now (stack .exit) ≡ pick projecting (now (stack .entry)) (put (now (stack .entry)) (matrixWidth * (pushed push depth - 1)) (laid (made load m (rows (now (stack .entry)) (matrixWidth * (depth - 1))))))) ⌝ }
-{
-    if projecting {
-        let made = decide::stack::made_of(load, m, matrix::math::from_flat(projection));
-        return Turned {
-            depth: depth,
-            projection: matrix::math::to_flat(made),
-        };
-    }
-    let made = decide::stack::made_of(load, m, decide::stack::top_at(stack, depth));
-    let d = decide::stack::pushed_depth(push, depth);
-    let flat = matrix::math::to_flat(made);
-    areas::put_f32(stack, 16 * ((d - 1) as usize), &flat);
-    Turned {
-        depth: d,
-        projection: projection,
-    }
-}
-
-// A top of the stack times a projection, flat.
-pub(crate) fn product_of(top: [[f32; 4]; 4], projection: [f32; 16]) -> [f32; 16]
-    ensures { λ r. ⌜ r ≡ laid (times top (rows projection 0)) ⌝ }
-{
-    matrix::math::to_flat(matrix::math::mul4(top, matrix::math::from_flat(projection)))
 }
 
 // A table's count once an entry was appended, or kept, or had no room. Asks for a count that does not wrap.
@@ -222,27 +177,15 @@ impl State {
     pub fn opening(matrices: &mut [f32], viewports: &mut [f32]) -> Answered
         ensures { λ r. ⌜ outcome r (now (matrices .exit), now (viewports .exit)) ≡ carry areas12 (openingPlan (now (matrices .entry)) (now (viewports .entry))) (blank false) (now (matrices .entry), now (viewports .entry)) ⌝ }
     {
-        if areas::room_of(MATRIX_WIDTH, matrices.len()) < 1 {
+        let short = decide::append::put_first(matrices, viewports);
+        if 0 < short {
             return Answered {
-                state: blank_state(false),
-                answer: Answer::NoRoom(1),
+                state: blank_state(false, 0),
+                answer: Answer::NoRoom(short),
             };
         }
-        if areas::room_of(VIEWPORT_WIDTH, viewports.len()) < 1 {
-            return Answered {
-                state: blank_state(false),
-                answer: Answer::NoRoom(2),
-            };
-        }
-        let one = matrix::math::to_flat(matrix::math::identity());
-        let none = [0.0f32; 6];
-        areas::put_f32(matrices, 0, &one);
-        areas::put_f32(viewports, 0, &none);
-        let mut s = opened_state();
-        s.counts.matrices = 1;
-        s.counts.viewports = 1;
         Answered {
-            state: s,
+            state: opened_state(),
             answer: Answer::Done,
         }
     }
@@ -285,13 +228,10 @@ impl State {
         if let Answer::Done = answer {
             let m = layout::matrix(data, at);
             let f = flags as u32;
-            let push = decide::judge::has_flag(family.push, f);
-            let load = decide::judge::has_flag(family.load, f);
-            let projecting = decide::judge::has_flag(family.projection, f);
             let p = self.projection;
-            let t = turn(push, load, projecting, m, &mut stack, p, self.depth);
+            let t = decide::stack::take(family, f, m, &mut stack, p, self.depth);
             let projection = t.projection;
-            let product = product_of(decide::stack::top_at(&stack, t.depth), projection);
+            let product = t.product;
             let how = decide::append::append_f32(matrices, MATRIX_WIDTH, n, &product);
             if let Append::Full = how {
                 answer = Answer::NoRoom(1);
@@ -352,7 +292,7 @@ impl State {
             due = d != self.depth;
         }
         if due {
-            let product = product_of(decide::stack::top_at(&stack, d), p);
+            let product = decide::stack::product_of(decide::stack::top_at(&stack, d), p);
             let how = decide::append::append_f32(matrices, MATRIX_WIDTH, n, &product);
             if let Append::Full = how {
                 answer = Answer::NoRoom(1);

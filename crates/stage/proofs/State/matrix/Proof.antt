@@ -5,7 +5,6 @@ use lib.ListN.{length}
 use denote.Ref.{now}
 use borrow.Author.Tests.{leb-true}
 use Rattle.areas.specs.Widths.{matrixWidth}
-use Rattle.stage.proofs.Turning.{turned-in}
 use Rattle.stage.proofs.Early.{Clear, early-clear, in-range}
 use Rattle.stage.proofs.Ways.{matrix-refused, matrix-new, matrix-full, came-from}
 use borrow.Author.Needs.{needs}
@@ -21,10 +20,10 @@ abbrev start : tie.After-early-in → tie.Start
 start c = c .before .before .before .before .before
 
 abbrev told : tie.After-stack2 → tie.After-enum-told
-told c = c .before .before .before .before .before .before
+told c = c .before .before .before
 
-abbrev taken : tie.After-slice-known2 → tie.After-turn
-taken c = c .before .before .before .before .before .before .before .before .before
+abbrev taken : tie.After-slice-known2 → tie.After-take
+taken c = c .before .before .before .before .before .before .before
 
 -- the first tests are passed
 clear : (c : tie.At-match-keys1) → let a = start (answered (c .before)) .args in Clear (a .self) matrixWidth (a .self .counts .matrices) 64 (a .at) (now (a .«data»)) (now (a .matrices))
@@ -47,26 +46,8 @@ enum-told c = search needs
 matrix-requires : tie.Need-matrix-requires
 matrix-requires c κs = leb-true _ _ (clear (c .before) .reach)
 
-has-flag-requires : tie.Need-has-flag-requires
-has-flag-requires c κs = tt
-
-has-flag-requires-2 : tie.Need-has-flag-requires-2
-has-flag-requires-2 c κs = tt
-
-has-flag-requires-3 : tie.Need-has-flag-requires-3
-has-flag-requires-3 c κs = tt
-
-turn-requires : tie.Need-turn-requires
-turn-requires c κs = let r = in-range (clear (told c .before)) in (r .low, r .high)
-
-top-at-requires : tie.Need-top-at-requires
-top-at-requires c κs =
-    let d = c .before .before in
-    let r = in-range (clear (told (d .before) .before)) in
-    turned-in _ _ _ _ (d .turn .ensures .0) (r .low, r .high)
-
-product-of-requires : tie.Need-product-of-requires
-product-of-requires c κs = tt
+take-requires : tie.Need-take-requires
+take-requires c κs = let r = in-range (clear (told c .before)) in (r .low, r .high)
 
 slice-aggregate-append-f32 : tie.Need-slice-aggregate-append-f32
 slice-aggregate-append-f32 c = search needs
@@ -81,20 +62,20 @@ count-after-requires : tie.Need-count-after-requires
 count-after-requires c κs = in-range (clear (told (taken (c .before) .before) .before)) .matrices
 
 same-length : tie.Need-same-length
-same-length c = ⊎-elim (λ w. ap length (w .21) ∙ w .16 .given) (⊎-elim (λ w. ap length (w .22) ∙ w .16 .given) (λ w. ap length (w .2))) (c .match .came)
+same-length c = ⊎-elim (λ w. ap length (w .16) ∙ w .11 .given) (⊎-elim (λ w. ap length (w .17) ∙ w .11 .given) (λ w. ap length (w .2))) (c .match .came)
 
 returns : tie.Need-returns
 returns c =
     let e = answered (c .before) in
     let f = e .before .before .family-of .ensures in
     ⊎-elim
-    (λ w. came-from _ _ _ _ _ _ _ _ _ (w .20) (w .21) (w .22) (w .23)
-    (matrix-full _ _ _ _ _ (clear (record { before = c .before; match = w .0 })) _ _ _ _ _ _ _ _ _ _ _ _ f (w .3 .ensures) (w .4 .ensures) (w .5 .ensures) (w .2 .ensures) (w .8 .ensures .0) (w .8 .ensures .1) (w .8 .ensures .2) (w .11 .ensures) (w .12 .ensures) (w .15 .ensures)
-    (w .19 .given .1)))
+    (λ w. came-from _ _ _ _ _ _ _ _ _ (w .15) (w .16) (w .17) (w .18)
+    (matrix-full _ _ _ _ _ (clear (record { before = c .before; match = w .0 })) _ _ _ _ _ _ _ _ f (w .2 .ensures) (w .5 .ensures .0) (w .5 .ensures .1 .0) (w .5 .ensures .1 .1 .0) (w .5 .ensures .1 .1 .1) (w .10 .ensures)
+    (w .14 .given .1)))
     (⊎-elim
-    (λ w. came-from _ _ _ _ _ _ _ _ _ (w .21) (w .22) (w .23) (w .24)
-    (matrix-new _ _ _ _ _ (clear (record { before = c .before; match = w .0 })) _ _ _ _ _ _ _ _ _ _ _ _ f (w .3 .ensures) (w .4 .ensures) (w .5 .ensures) (w .2 .ensures) (w .8 .ensures .0) (w .8 .ensures .1) (w .8 .ensures .2) (w .11 .ensures) (w .12 .ensures) (w .15 .ensures)
-    _ (w .1 .given .1) _ (w .19 .ensures) (w .18 .keys2)))
+    (λ w. came-from _ _ _ _ _ _ _ _ _ (w .16) (w .17) (w .18) (w .19)
+    (matrix-new _ _ _ _ _ (clear (record { before = c .before; match = w .0 })) _ _ _ _ _ _ _ _ f (w .2 .ensures) (w .5 .ensures .0) (w .5 .ensures .1 .0) (w .5 .ensures .1 .1 .0) (w .5 .ensures .1 .1 .1) (w .10 .ensures)
+    _ (w .1 .given .1) _ (w .14 .ensures) (w .13 .keys2)))
     (λ w. came-from _ _ _ _ _ _ _ _ _ (w .1) (w .2) (w .3) (w .4) (matrix-refused _ _ _ _ _ _ _ (e .before .room-of .ensures) (e .early-in .ensures) (w .0 .keys2))))
     (c .match .came)
 
@@ -107,12 +88,7 @@ matrix-spec =
     early-in-requires
     enum-told
     matrix-requires
-    has-flag-requires
-    has-flag-requires-2
-    has-flag-requires-3
-    turn-requires
-    top-at-requires
-    product-of-requires
+    take-requires
     slice-aggregate-append-f32
     append-f32-requires
     enum-told-2

@@ -7,7 +7,7 @@ use lib.Dec.{eqb}
 use denote.Ref.{now}
 use borrow.Author.Tests.{not-true, not-false}
 use Rattle.areas.specs.Widths.{matrixWidth}
-use Rattle.stage.proofs.Turning.{popped-in}
+use Rattle.decide.proofs.Turning.{popped-in}
 use Rattle.stage.proofs.Early.{Clear, early-clear, in-range}
 use Rattle.stage.specs.declared.Answer.the-variants.{Done}
 use Rattle.stage.proofs.Ways.{pop-refused, pop-none, pop-new, pop-full}

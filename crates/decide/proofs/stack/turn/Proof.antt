@@ -1,10 +1,10 @@
--- `stage::matrices::turn` meets its contract. Assumes nothing.
+-- `decide::stack::turn` meets its contract. Assumes nothing.
 use mathlib.Core.Path.{refl, _∙_}
-use Rattle.stage.proofs.Turning.{pushed-low}
-use Rattle.stage.specs.Plan.{pick}
+use Rattle.decide.proofs.Turning.{pushed-low}
+use Rattle.numbers.specs.Choice.{pick}
 use borrow.Author.Needs.{needs}
-use Rattle.stage.proofs.matrices.turn.Statement.{statement}
-use Rattle.stage.proofs.matrices.turn.Tie as tie
+use Rattle.decide.proofs.stack.turn.Statement.{statement}
+use Rattle.decide.proofs.stack.turn.Tie as tie
 
 from-flat-requires : tie.Need-from-flat-requires
 from-flat-requires c κs = tt

@@ -1,7 +1,7 @@
--- `stage::matrices::product_of` meets its contract. Assumes nothing.
+-- `decide::stack::product_of` meets its contract. Assumes nothing.
 use mathlib.Core.Path.{_∙_}
-use Rattle.stage.proofs.matrices.product_of.Statement.{statement}
-use Rattle.stage.proofs.matrices.product_of.Tie as tie
+use Rattle.decide.proofs.stack.product_of.Statement.{statement}
+use Rattle.decide.proofs.stack.product_of.Tie as tie
 
 from-flat-requires : tie.Need-from-flat-requires
 from-flat-requires c κs = tt
