@@ -115,7 +115,7 @@ fn judge_room(c: Change, s: Slot, t: Tables) -> Verdict
 
 // Refusal 5, for a slot that is not loaded or an attribute that is not known, then 10 for the slot's row, then the areas.
 // Asks for counts in their range.
-pub fn judge(asked: Asked, s: Slot, t: Tables) -> Verdict
+pub(crate) fn judge(asked: Asked, s: Slot, t: Tables) -> Verdict
     requires { ⌜ (t .scales ≤ most) × (t .rows ≤ most) ⌝ }
     ensures { λ r. ⌜ r ≡ changeJudged asked s t ⌝ }
 {
