@@ -50,7 +50,7 @@ pub struct Lookat {
 }
 
 // All that the commands keep between them. A value under a cleared mark is 0, so that a state is determined. In this
-// order a command takes out the columns that it writes, and the rest costs no copy (docs/SPEED.md).
+// order a command takes out the columns that it writes, and where the compiler splits the state the rest costs no copy (docs/SPEED.md).
 pub struct State {
     // The model stack: `depth` matrices of sixteen numbers in use, the last of them the top.
     pub stack: [f32; 512],
