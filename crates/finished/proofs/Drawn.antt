@@ -90,7 +90,7 @@ module _ {seats : ℕ} {t : Entries} {rows : List Row} {indices runs : List (Lis
         used = append-cases (λ _ e. getD e 0 0 < length rows) indices (rows3 s x y z) [] (I .used)
             (three (λ j. getD (getD (rows3 s x y z) j []) 0 0 < length rows) (I .below x ex) (I .below y ey) (I .below z ez));
         held = I .held;
-        reached = λ j h. rw len (X .reached j h);
+        tiled = rw len (X .tiled);
         whole = X .whole;
         count = rw (len, length-append) (omega (arith, I .count));
         given = snoc-cases (λ n T. triangleOf t rows (indices ++ rows3 s x y z) qs n ≡ T) ts drawn-now noTriangle

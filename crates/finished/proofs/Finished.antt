@@ -16,106 +16,138 @@ use Rattle.change.specs.Decoded.{decoded}
 use Rattle.triangle.specs.Slot.{both}
 use Rattle.stage.specs.declared.State.{State}
 use Rattle.stage.specs.declared.settings.Microcode.{Microcode}
-use Rattle.stage.specs.Plan.{Edits, Plan, refuse, does}
+use Rattle.stage.specs.Plan.{Plan, refuse, does, pick}
 use Rattle.stage.specs.Opening.{blank, opened}
 use Rattle.stage.specs.Lights.{switched}
 use Rattle.stage.specs.Draw.{rowOf}
 use Rattle.stage.proofs.Judged.{and-left, and-right}
-use Rattle.sequence.specs.Sequence.{Command, matrix, force, pop, viewport, geometry, texture, fog, number, light, lookat, microcode, load, cull, depth, modify, draw, ink, Areas, Port, Book, Alike, book, plan, step, run, opening}
-use Rattle.sequence.proofs.Turn.{turn, course}
+use Rattle.sequence.specs.Sequence.{Command, matrix, force, pop, viewport, geometry, texture, fog, number, light, lookat, microcode, load, cull, depth, modify, draw, ink, Areas, Port, Book, Alike, book, plan, step, run, isDone, accepted, opening}
+use Rattle.sequence.proofs.Turn.{enter, turn, course}
 use Rattle.sequence.proofs.Accepts.{Accepted}
 use Rattle.sequence.proofs.Held.{Fits, step-book, run-book}
 use Rattle.sequence.proofs.Opened.{opened-book, opened-alike, open-book, open-refused, shut, run-shut, shut-plan}
-use Rattle.finished.specs.Shown.{Triangle}
-use Rattle.finished.specs.Bench.{Bench, bench0, noCorner, withTriangle, given, modifies, act, obey, bench}
-use Rattle.finished.specs.Statement.{after, beside, recorded, noTriangle, gave, Stands, Finished, Demand3}
+use Rattle.finished.specs.Shown.{Triangle, triangleOf}
+use Rattle.finished.specs.Bench.{Bench, bench0, noCorner, moved, turns, pops, modifies, withTriangle, given, draws, act, bench}
+use Rattle.finished.specs.Statement.{after, beside, recorded, noTriangle, gave, Stands, Finished, Demand3, OneRun, RunOf}
 use Rattle.finished.proofs.Lists.{Longer, same, with-more, longer-length, longer-at, none-marked, pick-case, pick-false}
-use Rattle.finished.proofs.Ties.{Inv}
+use Rattle.finished.proofs.Ties.{settingsOf, Inv}
 use Rattle.finished.proofs.Keeps.{Keeps, keeps}
+use Rattle.finished.proofs.Owned.{tiled-one, own, own-held, own-settings}
 
 module _ (F : ℕ → Family) (limit : State → ℕ) where
-  -- ---- the bench, beside a book
+  -- ---- which commands are accepted
 
-  bench-on : List Command → Book → Bench → Bench
-  bench-on [] k h = h
-  bench-on (c ∷ cs) k h = bench-on cs (turn (plan F limit c k) k) (obey F c (plan F limit c k) (k .state) h)
+  accepted-append : (cs ds : List Command) (p : Port) → accepted (plan F limit) (cs ++ ds) p ≡ accepted (plan F limit) cs p ++ accepted (plan F limit) ds (run (plan F limit) cs p)
+  unfolding accepted run pick
+  accepted-append [] ds p = refl
+  accepted-append (c ∷ cs) ds p =
+      let more : List Command = accepted (plan F limit) ds (run (plan F limit) cs (step (plan F limit) c p)) in
+      ap (λ (l : List Command). pick (isDone (plan F limit c (book p))) (c ∷ l) l) (accepted-append cs ds (step (plan F limit) c p))
+      ∙ pick-append (isDone (plan F limit c (book p))) c (accepted (plan F limit) cs (step (plan F limit) c p)) more
+    where
+      pick-append : (b : Bool) (c : Command) (l m : List Command) → pick b (c ∷ l ++ m) (l ++ m) ≡ pick b (c ∷ l) l ++ m
+      pick-append true c l m = refl
+      pick-append false c l m = refl
 
-  bench-book : (cs : List Command) (p : Port) (h : Bench) → Fits p → bench F (plan F limit) cs p h ≡ bench-on cs (book p) h
-  unfolding bench bench-on book
-  bench-book [] p h r = refl
-  bench-book (c ∷ cs) p h r =
+  -- they hang on what is in use, and so on the book
+  taken : List Command → Book → List Command
+  taken [] k = []
+  taken (c ∷ cs) k = pick (isDone (plan F limit c k)) (c ∷ taken cs (turn (plan F limit c k) k)) (taken cs (turn (plan F limit c k) k))
+
+  accepted-book : (cs : List Command) (p : Port) → Fits p → accepted (plan F limit) cs p ≡ taken cs (book p)
+  unfolding accepted taken
+  accepted-book [] p r = refl
+  accepted-book (c ∷ cs) p r =
       let s = step-book F limit c p r in
-      let g : Bench = obey F c (plan F limit c (book p)) (p .state) h in
-      bench-book cs (step (plan F limit) c p) g (s .0) ∙ ap (λ (k : Book). bench-on cs k g) (s .2)
+      ap (λ (l : List Command). pick (isDone (plan F limit c (book p))) (c ∷ l) l) (accepted-book cs (step (plan F limit) c p) (s .0) ∙ ap (taken cs) (s .2))
 
-  bench-append : (cs ds : List Command) (p : Port) (h : Bench) → bench F (plan F limit) (cs ++ ds) p h ≡ bench F (plan F limit) ds (run (plan F limit) cs p) (bench F (plan F limit) cs p h)
-  unfolding bench run
-  bench-append [] ds p h = refl
-  bench-append (c ∷ cs) ds p h = bench-append cs ds (step (plan F limit) c p) (obey F c (plan F limit c (book p)) (p .state) h)
+  -- a state that is not opened accepts none
+  accepted-shut : (cs : List Command) (p : Port) → p .state .opened ≡ false → accepted (plan F limit) cs p ≡ []
+  unfolding accepted pick book
+  accepted-shut [] p e = refl
+  accepted-shut (c ∷ cs) p e =
+      let rest : List Command = accepted (plan F limit) cs (step (plan F limit) c p) in
+      ap (λ (q : Plan). pick (isDone q) (c ∷ rest) rest) (shut-plan F limit c (book p) e)
+      ∙ accepted-shut cs (step (plan F limit) c p) (ap (λ (r : Port). r .state .opened) (shut F limit c p e) ∙ e)
 
   -- ---- the bench's triangles only grow
 
-  act-longer : (f : Family) (c : Command) (s t : State) (h : Bench) → Longer (h .triangles) (act f c s t h .triangles)
-  unfolding act modifies
-  act-longer f (matrix flags bytes at) s t h = same (h .triangles)
-  act-longer f (force bytes at) s t h = same (h .triangles)
-  act-longer f (pop count) s t h = pick-case (λ (g : Bench). Longer (h .triangles) (g .triangles)) _ (λ _. same (h .triangles)) (λ _. same (h .triangles))
-  act-longer f (viewport bytes at) s t h = same (h .triangles)
-  act-longer f (geometry off on) s t h = same (h .triangles)
-  act-longer f (texture tile level on sc tc) s t h = same (h .triangles)
-  act-longer f (fog multiplier offset) s t h = same (h .triangles)
-  act-longer f (number bytes) s t h = same (h .triangles)
-  act-longer f (light slot bytes at) s t h = same (h .triangles)
-  act-longer f (lookat slot bytes at) s t h = same (h .triangles)
-  act-longer f (microcode to) s t h = same (h .triangles)
-  act-longer f (load first count bytes at) s t h = same (h .triangles)
-  act-longer f (cull first last) s t h = same (h .triangles)
-  act-longer f (depth slot threshold) s t h = same (h .triangles)
-  act-longer f (modify slot attribute value) s t h = modified-longer (decoded attribute value)
+  act-longer : (c : Command) (h : Bench) → Longer (h .triangles) (act F c h .triangles)
+  unfolding act turns pops draws modifies
+  act-longer (matrix flags bytes at) h = same (h .triangles)
+  act-longer (force bytes at) h = same (h .triangles)
+  act-longer (pop count) h = pick-case (λ (g : Bench). Longer (h .triangles) (g .triangles)) _ (λ _. same (h .triangles)) (λ _. same (h .triangles))
+  act-longer (viewport bytes at) h = same (h .triangles)
+  act-longer (geometry off on) h = same (h .triangles)
+  act-longer (texture tile level on sc tc) h = same (h .triangles)
+  act-longer (fog multiplier offset) h = same (h .triangles)
+  act-longer (number bytes) h = same (h .triangles)
+  act-longer (light slot bytes at) h = same (h .triangles)
+  act-longer (lookat slot bytes at) h = same (h .triangles)
+  act-longer (microcode to) h = same (h .triangles)
+  act-longer (load first count bytes at) h = same (h .triangles)
+  act-longer (cull first last) h = same (h .triangles)
+  act-longer (depth slot threshold) h = same (h .triangles)
+  act-longer (modify slot attribute value) h = modified-longer (decoded attribute value)
     where
       modified-longer : (a : Asked) → Longer (h .triangles) (modifies a slot h .triangles)
       modified-longer Unknown = same (h .triangles)
       modified-longer (Known c) = same (h .triangles)
-  act-longer f (draw a b c material mode colour prim) s t h =
+  act-longer (draw a b c material mode colour prim) h =
       pick-case (λ (g : Bench). Longer (h .triangles) (g .triangles)) _ (λ _. same (h .triangles)) (λ _. with-more (h .triangles) _)
-  act-longer f (ink colour) s t h = same (h .triangles)
-
-  obey-longer : (c : Command) (q : Plan) (s : State) (h : Bench) → Longer (h .triangles) (obey F c q s h .triangles)
-  unfolding obey
-  obey-longer c (refuse n vs) s h = same (h .triangles)
-  obey-longer c (does vs t e) s h = act-longer (F (s .microcode)) c s t h
+  act-longer (ink colour) h = same (h .triangles)
 
   longer-trans : {A : Type 0} {l m n : List A} → Longer l m → Longer m n → Longer l n
   longer-trans {A} {l} {m} {n} x y = record { more = x .more ++ y .more; is = y .is ∙ ap (λ (z : List A). z ++ y .more) (x .is) ∙ append-assoc l (x .more) (y .more) }
 
   -- WHAT THE BENCH GAVE IT NEVER TAKES BACK
-  pub bench-longer : (cs : List Command) (p : Port) (h : Bench) → Longer (h .triangles) (bench F (plan F limit) cs p h .triangles)
+  pub bench-longer : (cs : List Command) (h : Bench) → Longer (h .triangles) (bench F cs h .triangles)
   unfolding bench
-  bench-longer [] p h = same (h .triangles)
-  bench-longer (c ∷ cs) p h =
-      longer-trans (obey-longer c (plan F limit c (book p)) (p .state) h) (bench-longer cs (step (plan F limit) c p) (obey F c (plan F limit c (book p)) (p .state) h))
+  bench-longer [] h = same (h .triangles)
+  bench-longer (c ∷ cs) h = longer-trans (act-longer c h) (bench-longer cs (act F c h))
+
+  bench-append : (cs ds : List Command) (h : Bench) → bench F (cs ++ ds) h ≡ bench F ds (bench F cs h)
+  unfolding bench
+  bench-append [] ds h = refl
+  bench-append (c ∷ cs) ds h = bench-append cs ds (act F c h)
 
   -- ---- the invariant, through a sequence
 
   module _ (seats : ℕ) (inside : (s : State) → limit s ≤ seats) (few : seats ≤ 256) where
-    step-inv : (c : Command) (k : Book) (h : Bench) → Inv seats k h → Inv seats (turn (plan F limit c k) k) (obey F c (plan F limit c k) (k .state) h)
-    unfolding turn obey Accepted
-    step-inv c k h I = go (plan F limit c k) (keeps F limit seats few k (inside (k .state)) h I c)
-      where
-        go : (q : Plan) → Accepted (Keeps F limit seats few k (inside (k .state)) h I c) q → Inv seats (turn q k) (obey F c q (k .state) h)
-        go (refuse n vs) K = I
-        go (does vs t e) K = K
+    -- a bench with its settings read in the state is the bench
+    read-settings : (k : Book) (h : Bench) → Inv seats k h → moved h (settingsOf (k .state)) (h .values) ≡ h
+    read-settings k h I = λ i. record { slots = h .slots; settings = I .settings i; values = h .values; triangles = h .triangles }
 
-    course-inv : (cs : List Command) (k : Book) (h : Bench) → Inv seats k h → Inv seats (course (plan F limit) cs k) (bench-on cs k h)
-    unfolding course bench-on
-    course-inv [] k h I = I
-    course-inv (c ∷ cs) k h I = course-inv cs (turn (plan F limit c k) k) (obey F c (plan F limit c k) (k .state) h) (step-inv c k h I)
+    -- one command: the bench acts where it is accepted
+    step-inv : (c : Command) (p : Port) (h : Bench) → Fits p → Inv seats (book p) h → Inv seats (book (step (plan F limit) c p)) (pick (isDone (plan F limit c (book p))) (act F c h) h)
+    unfolding turn Accepted pick
+    step-inv c p h r I =
+        subst (λ (k : Book). Inv seats k (pick (isDone (plan F limit c (book p))) (act F c h) h)) (sym (step-book F limit c p r .2))
+        (go (plan F limit c (book p)) (keeps F limit seats few (book p) (inside (book p .state)) h I c))
+      where
+        go : (q : Plan) → Accepted (Keeps F limit seats few (book p) (inside (book p .state)) h I c) q → Inv seats (turn q (book p)) (pick (isDone q) (act F c h) h)
+        go (refuse n vs) K = I
+        go (does vs t x) K = subst (λ (g : Bench). Inv seats (enter t x (book p)) (act F c g)) (read-settings (book p) h I) K
+
+    bench-takes : (b : Bool) (c : Command) (cs : List Command) (h : Bench) → bench F cs (pick b (act F c h) h) ≡ bench F (pick b (c ∷ cs) cs) h
+    unfolding bench pick
+    bench-takes true c cs h = refl
+    bench-takes false c cs h = refl
+
+    run-inv : (cs : List Command) (p : Port) (h : Bench) → Fits p → Inv seats (book p) h → Inv seats (book (run (plan F limit) cs p)) (bench F (accepted (plan F limit) cs p) h)
+    unfolding run accepted bench
+    run-inv [] p h r I = I
+    run-inv (c ∷ cs) p h r I =
+        let b : Bool = isDone (plan F limit c (book p)) in
+        subst (Inv seats (book (run (plan F limit) cs (step (plan F limit) c p)))) (bench-takes b c (accepted (plan F limit) cs (step (plan F limit) c p)) h)
+        (run-inv cs (step (plan F limit) c p) (pick b (act F c h) h) (step-book F limit c p r .0) (step-inv c p h r I))
 
     open-inv : (l : Areas) → Inv seats (opened-book l) (bench0 seats)
     unfolding opened blank bench0
     open-inv l =
         record {
           count = record { matrices = refl; viewports = refl; scales = refl; lights = refl; lookats = refl; fogs = refl; rows = refl; indices = refl; runs = refl };
+          settings = refl;
           ties = record {
             current = record {
               some-matrix = omega arith;
@@ -144,7 +176,7 @@ module _ (F : ℕ → Family) (limit : State → ℕ) where
               sound = λ i h. absurd (omega arith);
               used = λ i h. absurd (omega arith);
               held = λ k e. absurd (none-marked 256 k e);
-              reached = λ j h. absurd (omega arith);
+              tiled = refl;
               whole = λ j h. absurd (omega arith);
               count = refl;
               given = λ n h. absurd (omega arith);
@@ -161,18 +193,17 @@ module _ (F : ℕ → Family) (limit : State → ℕ) where
     after-inv : (l : Areas) → Opens l → (cs : List Command) → Inv seats (book (after (plan F limit) l cs)) (beside F (plan F limit) seats l cs)
     after-inv l o cs =
         let b = open-book l (o .0) (o .1) in
-        let I = course-inv cs (book (opening l)) (bench0 seats) (subst (λ (k : Book). Inv seats k (bench0 seats)) (sym (b .1)) (open-inv l)) in
-        rw (run-book F limit cs (opening l) (b .0) .1, bench-book cs (opening l) (bench0 seats) (b .0)) I
+        run-inv cs (opening l) (bench0 seats) (b .0) (subst (λ (k : Book). Inv seats k (bench0 seats)) (sym (b .1)) (open-inv l))
 
-    -- areas of equal lengths, whatever stands in them, make no difference to what is in use, nor to the bench
+    -- areas of equal lengths, whatever stands in them, make no difference to what is in use, nor to what is accepted
     after-alike : (x y : Areas) → Alike x y → Opens x → Opens y → (cs : List Command)
-        → (book (after (plan F limit) x cs) ≡ book (after (plan F limit) y cs)) × (beside F (plan F limit) seats x cs ≡ beside F (plan F limit) seats y cs)
+        → (book (after (plan F limit) x cs) ≡ book (after (plan F limit) y cs)) × (accepted (plan F limit) cs (opening x) ≡ accepted (plan F limit) cs (opening y))
     after-alike x y e ox oy cs =
         let a = open-book x (ox .0) (ox .1) in
         let b = open-book y (oy .0) (oy .1) in
         let q : book (opening x) ≡ book (opening y) = a .1 ∙ opened-alike x y e ∙ sym (b .1) in (
           run-book F limit cs (opening x) (a .0) .1 ∙ ap (course (plan F limit) cs) q ∙ sym (run-book F limit cs (opening y) (b .0) .1),
-          bench-book cs (opening x) (bench0 seats) (a .0) ∙ ap (λ (k : Book). bench-on cs k (bench0 seats)) q ∙ sym (bench-book cs (opening y) (bench0 seats) (b .0)),
+          accepted-book cs (opening x) (a .0) ∙ ap (taken cs) q ∙ sym (accepted-book cs (opening y) (b .0)),
         )
 
     -- indices in use are three for each triangle of the bench
@@ -182,22 +213,14 @@ module _ (F : ℕ → Family) (limit : State → ℕ) where
 
     -- ---- after an opening that is refused
 
-    bench-shut : (cs : List Command) (p : Port) (h : Bench) → p .state .opened ≡ false → bench F (plan F limit) cs p h ≡ h
-    unfolding bench obey book
-    bench-shut [] p h e = refl
-    bench-shut (c ∷ cs) p h e =
-        let q : step (plan F limit) c p ≡ p = shut F limit c p e in
-        bench-shut cs (step (plan F limit) c p) (obey F c (plan F limit c (book p)) (p .state) h) (ap (λ (r : Port). r .state .opened) q ∙ e)
-        ∙ ap (λ (n : Plan). obey F c n (p .state) h) (shut-plan F limit c (book p) e)
-
     -- nothing is recorded, by either
     refused-none : (l : Areas) → opening l ≡ record { state = blank false; areas = l } → (cs : List Command)
         → (after (plan F limit) l cs .state .counts .indices ≡ 0) × (beside F (plan F limit) seats l cs .triangles ≡ [])
-    unfolding blank bench0
+    unfolding blank bench0 bench
     refused-none l e cs =
         let o : opening l .state .opened ≡ false = ap (λ (p : Port). p .state .opened) e in (
           ap (λ (p : Port). p .state .counts .indices) (run-shut F limit cs (opening l) o ∙ e),
-          ap (λ (h : Bench). h .triangles) (bench-shut cs (opening l) (bench0 seats) o),
+          ap (λ (ds : List Command). bench F ds (bench0 seats) .triangles) (accepted-shut cs (opening l) o),
         )
 
     -- an opening is done, or refused
@@ -223,28 +246,47 @@ module _ (F : ℕ → Family) (limit : State → ℕ) where
     pub recorded-is : (l : Areas) (cs : List Command) → recorded (after (plan F limit) l cs) ≡ length (beside F (plan F limit) seats l cs .triangles)
     recorded-is l cs = omega (arith, three-each l cs)
 
+    -- THE BENCH'S SETTINGS ARE THE STAGE'S, though it was told only which commands were accepted
+    pub settings-are : (l : Areas) → Opens l → (cs : List Command) → settingsOf (after (plan F limit) l cs .state) ≡ beside F (plan F limit) seats l cs .settings
+    unfolding book
+    settings-are l o cs = after-inv l o cs .settings
+
+    -- EACH INDEX IN USE IS HELD BY ONE RUN IN USE, and by no other
+    pub one-run : (l : Areas) → Opens l → (cs : List Command) (i : ℕ) → let k = book (after (plan F limit) l cs) in i < length (k .drawing .indices .used) → OneRun (k .drawing .runs .used) i
+    one-run l o cs i h = tiled-one 0 _ _ (after-inv l o cs .ties .standing .tiled) i (omega arith) h
+
+    -- THE RUN OF A TRIANGLE IS A FACT: one run has its three indices, no other has one of them, and the triangle shows its settings
+    pub own-run : (l : Areas) → Opens l → (cs : List Command) (n : ℕ) → n < recorded (after (plan F limit) l cs) → RunOf (book (after (plan F limit) l cs)) n
+    unfolding triangleOf
+    own-run l o cs n h =
+        let k : Book = book (after (plan F limit) l cs) in
+        let S = after-inv l o cs .ties .standing in
+        let low : 3 * n + 3 ≤ length (k .drawing .indices .used) = omega (arith, h, recorded-is l cs, S .count) in
+        record {
+          run = own (k .drawing .runs .used) (length (k .drawing .indices .used)) (S .tiled) n low;
+          held = own-held (k .drawing .runs .used) (length (k .drawing .indices .used)) (S .tiled) n low;
+          settings = own-settings (k .drawing .runs .used) (length (k .drawing .indices .used)) (S .tiled) n low;
+        }
+
     -- WHAT AN ACCEPTED DRAW GIVES THE BENCH: the three slots' values and its settings, behind what it gave before
-    pub when-drawn : (l : Areas) (cs : List Command) (a b c material mode colour prim : ℕ) (vs : List ℕ) (t : State) (e : Edits)
-        → plan F limit (draw a b c material mode colour prim) (book (after (plan F limit) l cs)) ≡ does vs t e
-        → both (F (after (plan F limit) l cs .state .microcode)) (after (plan F limit) l cs .state .geometry) ≡ false
-        → beside F (plan F limit) seats l (cs ++ draw a b c material mode colour prim ∷ []) .triangles
-        ≡ beside F (plan F limit) seats l cs .triangles ++ given (F (after (plan F limit) l cs .state .microcode)) (after (plan F limit) l cs .state) (beside F (plan F limit) seats l cs) a b c (material ∷ mode ∷ colour ∷ prim ∷ []) ∷ []
-    unfolding bench obey act
-    when-drawn l cs a b c material mode colour prim vs t e p q =
-        let s : State = after (plan F limit) l cs .state in
-        let h : Bench = beside F (plan F limit) seats l cs in
-        ap (λ (g : Bench). g .triangles) (bench-append cs (draw a b c material mode colour prim ∷ []) (opening l) (bench0 seats))
-        ∙ ap (λ (n : Plan). obey F (draw a b c material mode colour prim) n s h .triangles) p
-        ∙ ap (λ (g : Bench). g .triangles) (pick-false (both (F (s .microcode)) (s .geometry)) h (withTriangle h (given (F (s .microcode)) s h a b c (material ∷ mode ∷ colour ∷ prim ∷ []))) q)
+    pub when-drawn : (cs : List Command) (a b c material mode colour prim : ℕ) → let h = bench F cs (bench0 seats) in
+        let f = F (h .settings .modes .microcode) in
+        both f (h .settings .modes .geometry) ≡ false
+        → bench F (cs ++ draw a b c material mode colour prim ∷ []) (bench0 seats) .triangles ≡ h .triangles ++ given f h a b c (material ∷ mode ∷ colour ∷ prim ∷ []) ∷ []
+    unfolding bench act draws
+    when-drawn cs a b c material mode colour prim q =
+        let h : Bench = bench F cs (bench0 seats) in
+        ap (λ (g : Bench). g .triangles) (bench-append cs (draw a b c material mode colour prim ∷ []) (bench0 seats))
+        ∙ ap (λ (g : Bench). g .triangles) (pick-false (both (F (h .settings .modes .microcode)) (h .settings .modes .geometry)) h (withTriangle h (given (F (h .settings .modes .microcode)) h a b c (material ∷ mode ∷ colour ∷ prim ∷ []))) q)
 
     -- A SLOT UNLOADED BY A MICROCODE CHANGE still has its row and counts as loaded since opening, and the bench keeps its slots
     pub unloaded-draws : (s : State) (to : Microcode) (i : ℕ) → (rowOf (switched s to) i ≡ rowOf s i) × (getD (switched s to .ever) i false ≡ getD (s .ever) i false)
     unfolding switched
     unloaded-draws s to i = (refl, refl)
 
-    pub bench-rests : (f : Family) (s t : State) (to : Microcode) (h : Bench) → act f (microcode to) s t h ≡ h
+    pub bench-rests : (to : Microcode) (h : Bench) → (act F (microcode to) h .slots ≡ h .slots) × (act F (microcode to) h .values ≡ h .values)
     unfolding act
-    bench-rests f s t to h = refl
+    bench-rests to h = (refl, refl)
 
     -- ---- the theorem
 
@@ -252,8 +294,10 @@ module _ (F : ℕ → Family) (limit : State → ℕ) where
     stands-later : (l : Areas) → Opens l → (cs ds : List Command) (n : ℕ) → n < length (beside F (plan F limit) seats l cs .triangles)
         → Stands (after (plan F limit) l (cs ++ ds)) n (gave (beside F (plan F limit) seats l cs) n)
     stands-later l o cs ds n h =
-        let e : beside F (plan F limit) seats l (cs ++ ds) ≡ bench F (plan F limit) ds (after (plan F limit) l cs) (beside F (plan F limit) seats l cs) = bench-append cs ds (opening l) (bench0 seats) in
-        let w : Longer (beside F (plan F limit) seats l cs .triangles) (beside F (plan F limit) seats l (cs ++ ds) .triangles) = rw e (bench-longer ds (after (plan F limit) l cs) (beside F (plan F limit) seats l cs)) in
+        let more : List Command = accepted (plan F limit) ds (after (plan F limit) l cs) in
+        let e : beside F (plan F limit) seats l (cs ++ ds) ≡ bench F more (beside F (plan F limit) seats l cs) =
+        ap (λ (c : List Command). bench F c (bench0 seats)) (accepted-append cs ds (opening l)) ∙ bench-append (accepted (plan F limit) cs (opening l)) more (bench0 seats) in
+        let w : Longer (beside F (plan F limit) seats l cs .triangles) (beside F (plan F limit) seats l (cs ++ ds) .triangles) = rw e (bench-longer more (beside F (plan F limit) seats l cs)) in
         let m : n < length (beside F (plan F limit) seats l (cs ++ ds) .triangles) = omega (arith, longer-length w) in
         record {
           in-use = rw (recorded-is l (cs ++ ds)) m;
@@ -270,7 +314,7 @@ module _ (F : ℕ → Family) (limit : State → ℕ) where
         by-opening (Stands (after (plan F limit) x (cs ++ ds)) n T × Stands (after (plan F limit) y (cs ++ es)) n T) x
         (λ o.
         let oy = alike-opens x y e o in
-        let q = after-alike x y e o oy cs .1 in
+        let q : beside F (plan F limit) seats x cs ≡ beside F (plan F limit) seats y cs = ap (λ (c : List Command). bench F c (bench0 seats)) (after-alike x y e o oy cs .1) in
         (stands-later x o cs ds n m, rw q (stands-later y oy cs es n (rw q at m))))
         (λ r. absurd (omega (arith, ap length (refused-none x r cs .1))))
 

@@ -8,9 +8,8 @@ use mathlib.Core.List.{List, [], _∷_, _++_, map}
 use lib.ListN.{length, getD}
 use lib.Dec.{eqb, ltb}
 use lib.Ieee.{Float}
-use borrow.Author.Tests.{eq-eqb}
 use Rattle.decide.specs.declared.family.Family.{Family}
-use Rattle.decide.specs.Stack.{geometryAfter, relit}
+use Rattle.decide.specs.Stack.{popped, geometryAfter, relit}
 use Rattle.layout.specs.Layout.{matrixAt}
 use Rattle.matrix.specs.Math.{rows, laid}
 use Rattle.triangle.specs.Run.{settings}
@@ -24,36 +23,42 @@ use Rattle.stage.specs.Plan.{keep, grow, Edits, does, pick, untouched}
 use Rattle.stage.specs.Sound.{stateSound}
 use Rattle.stage.specs.With.{withCombined}
 use Rattle.stage.specs.Matrices.{edits1, edits2, turned, combine, viewportEntry, geometryPlan}
-use Rattle.stage.specs.Lights.{texturePlan, fogPlan, numberPlan, lightPlan, ambientPlan, slotPlan, lookatPlan, axisIn, switched, microcodePlan}
+use Rattle.stage.specs.Lights.{texturePlan, fogPlan, numberPlan, lightPlan, ambientPlan, slotPlan, lightIn, lookatPlan, axisIn, switched, microcodePlan}
 use Rattle.stage.specs.Draw.{edits89, mark, triangle, runEdit, rowOf}
 use Rattle.stage.proofs.Judged.{and-right}
 use Rattle.sequence.specs.Sequence.{Command, matrix, force, pop, viewport, geometry, texture, fog, number, light, lookat, microcode, load, cull, depth, modify, draw, ink, Book, loadOf, plan}
 use Rattle.sequence.proofs.Turn.{edit, enter}
 use Rattle.sequence.proofs.Accepts.{Accepted, Held, on-does, on-then, on-unless, on-pick, on-combine, on-matrix, on-force, on-pop, on-viewport, on-load, on-modify, on-cull, on-depth, on-ink, on-draw}
 use Rattle.finished.specs.Shown.{entriesOf, Triangle}
-use Rattle.finished.specs.Bench.{Bench, noCorner, combines, withTriangle, turnedAs, given, act}
+use Rattle.finished.specs.Settings.{Settings, Space, withSpace, productOf, definedAs, deep, Lamps, withLamps, turnedTo, lampTo}
+use Rattle.finished.specs.Bench.{Bench, noCorner, moved, sets, combines, turns, pops, withTriangle, turnedAs, given, draws, act}
 use Rattle.finished.proofs.Lists.{pick-true, pick-false}
 use Rattle.finished.proofs.Running.{Extended, extended}
 use Rattle.finished.proofs.Standing.{Standing, slots-unloaded}
 use Rattle.finished.proofs.Drawn.{three-marked, mark-length, withMarks, triangle-drawn}
 use Rattle.finished.proofs.Settled.{LightsAt}
 use Rattle.sequence.proofs.Counted.{counted-then}
-use Rattle.finished.proofs.Ties.{Parts, partsOf, Ties, Inv, matrix-held, matrix-appended, viewport-held, viewport-appended}
+use Rattle.finished.proofs.Ties.{Parts, partsOf, spaceOf, settingsOf, Ties, Inv, matrix-held, matrix-appended, viewport-held, viewport-appended}
 use Rattle.finished.proofs.Loading.{load-keeps}
 use Rattle.finished.proofs.Modified.{modify-keeps}
 
--- a matrix command changes no slot, no light and no lookat axis
+-- a matrix command changes no slot, no light and no lookat axis, and the matrices as the bench changes them
 turned-parts : (push loads projection : Bool) (s : State) (m : List (List Float)) → partsOf (turned push loads projection s m) ≡ partsOf s
 unfolding turned pick
 turned-parts push loads true s m = refl
 turned-parts push loads false s m = refl
+
+turned-settings : (push loads projection : Bool) (s : State) (m : List (List Float)) → settingsOf (turned push loads projection s m) ≡ withSpace (settingsOf s) (turnedTo push loads projection m (spaceOf s))
+unfolding turned turnedTo pick
+turned-settings push loads true s m = refl
+turned-settings push loads false s m = refl
 
 -- a slot that was loaded since opening has the mark
 held-mark : (slots : ℕ) (marks : List Bool) (i : ℕ) → held slots marks i ≡ true → getD marks i false ≡ true
 unfolding held
 held-mark slots marks i e = and-right (ltb i slots) (getD marks i false) e
 
-module _ (F : ℕ → Family) (limit : State → ℕ) (seats : ℕ) (few : seats ≤ 256) (k : Book) (inside : limit (k .state) ≤ seats) (h : Bench) (I : Inv seats k h) where
+module _ (F : ℕ → Family) (limit : State → ℕ) (seats : ℕ) (few : seats ≤ 256) (k : Book) (inside : limit (k .state) ≤ seats) (g : Bench) (J : Inv seats k g) where
   -- the family in force, and how many slots a command may name
   abbrev f : Family
   f = F (k .state .microcode)
@@ -61,26 +66,33 @@ module _ (F : ℕ → Family) (limit : State → ℕ) (seats : ℕ) (few : seats
   abbrev slots : ℕ
   slots = limit (k .state)
 
+  -- the bench, its settings read in the state
+  abbrev h : Bench
+  h = moved g (settingsOf (k .state)) (g .values)
+
+  I : Inv seats k h
+  I = record { count = J .count; settings = refl; ties = J .ties }
+
   -- what an accepted command owes
   abbrev pub Keeps : Command → List ℕ → State → Edits → Type 0
-  Keeps c vs t e = Inv seats (enter t e k) (act f c (k .state) t h)
+  Keeps c vs t e = Inv seats (enter t e k) (act F c h)
 
   -- the invariant, over the parts of a state
   abbrev TiesOf : Parts → Type 0
-  TiesOf x = Ties seats (entriesOf k) (k .rows .used) (k .drawing .indices .used) (k .drawing .runs .used) x h
+  TiesOf x = Ties seats (entriesOf k) (k .rows .used) (k .drawing .indices .used) (k .drawing .runs .used) x (h .values) (h .slots) (h .triangles)
 
-  -- no table changes, and nothing of the state that is tied
-  rests : (t : State) → partsOf t ≡ partsOf (k .state) → Inv seats (enter t untouched k) h
-  rests t e = record { count = counted-then k (k .state) untouched (I .count); ties = subst TiesOf (sym e) (I .ties) }
+  -- no table changes, and nothing of the state that is tied to values, slots and triangles
+  rests : (t : State) (s : Settings) → partsOf t ≡ partsOf (k .state) → settingsOf t ≡ s → Inv seats (enter t untouched k) (sets s h)
+  rests t s e q = record { count = counted-then k (k .state) untouched (I .count); settings = q; ties = subst TiesOf (sym e) (I .ties) }
 
   -- no table changes, and other lights l are set
   relights : (t : State) (l : Lights)
       → partsOf t ≡ record { columns = partsOf (k .state) .columns; lights = l; lookat = k .state .lookat; unit = k .state .unit }
-      → (l .folded ≡ true → l .changed ≡ false → LightsAt (k .lights .used) l (h .values .lights)) → Inv seats (enter t untouched k) h
+      → (l .folded ≡ true → l .changed ≡ false → LightsAt (k .lights .used) l (h .values .lights)) → Inv seats (enter t untouched k) (sets (settingsOf t) h)
   relights t l e new =
       let c = I .ties .current in
       let x : Parts = record { columns = partsOf (k .state) .columns; lights = l; lookat = k .state .lookat; unit = k .state .unit } in
-      let J : TiesOf x =
+      let T : TiesOf x =
       record {
         current = record {
           some-matrix = c .some-matrix;
@@ -95,43 +107,54 @@ module _ (F : ℕ → Family) (limit : State → ℕ) (seats : ℕ) (few : seats
         };
         standing = I .ties .standing;
       } in
-      record { count = counted-then k (k .state) untouched (I .count); ties = subst TiesOf (sym e) J }
+      record { count = counted-then k (k .state) untouched (I .count); settings = refl; ties = subst TiesOf (sym e) T }
 
   -- ---- matrices
 
-  combined-keeps : (c : Command) (s′ : State) (m : List Float) → partsOf s′ ≡ partsOf (k .state)
-      → act f c (k .state) (withCombined s′ m true) h ≡ combines (withCombined s′ m true) h → Accepted (Keeps c) (combine s′ (k .matrices) m)
-  combined-keeps c s′ m e a =
+  -- m becomes the combined matrix of a state whose matrices are x
+  combined-keeps : (c : Command) (s′ : State) (x : Space) (m : List Float) → partsOf s′ ≡ partsOf (k .state) → settingsOf s′ ≡ withSpace (settingsOf (k .state)) x
+      → act F c h ≡ combines x m h → Accepted (Keeps c) (combine s′ (k .matrices) m)
+  combined-keeps c s′ x m e q a =
+      let z : settingsOf (withCombined s′ m true) ≡ withSpace (settingsOf (k .state)) (definedAs x true) = ap (λ (s : Settings). withSpace s (definedAs (s .space) true)) q in
       on-combine (Keeps c) s′ (k .matrices) m
-      (λ q. rw a (record { count = counted-then k (k .state) (edits1 keep) (I .count); ties = matrix-held (subst TiesOf (sym e) (I .ties)) m q }))
-      (λ q _. rw a (record { count = counted-then k (k .state) (edits1 (grow (m ∷ []))) (I .count); ties = matrix-appended (subst TiesOf (sym e) (I .ties)) m q }))
+      (λ y. rw a (record { count = counted-then k (k .state) (edits1 keep) (I .count); settings = z; ties = matrix-held (subst TiesOf (sym e) (I .ties)) m y }))
+      (λ y _. rw a (record { count = counted-then k (k .state) (edits1 (grow (m ∷ []))) (I .count); settings = z; ties = matrix-appended (subst TiesOf (sym e) (I .ties)) m y }))
+
+  -- the same, where m is the product
+  product-keeps : (c : Command) (s′ : State) (x : Space) → partsOf s′ ≡ partsOf (k .state) → settingsOf s′ ≡ withSpace (settingsOf (k .state)) x
+      → act F c h ≡ combines x (productOf x) h → Accepted (Keeps c) (combine s′ (k .matrices) (productOf (spaceOf s′)))
+  product-keeps c s′ x e q a =
+      let y : productOf (spaceOf s′) ≡ productOf x = ap (λ (s : Settings). productOf (s .space)) q in
+      combined-keeps c s′ x (productOf (spaceOf s′)) e q (a ∙ ap (λ (m : List Float). combines x m h) (sym y))
 
   keeps-matrix : (flags : ℕ) (bytes : List ℕ) (at : ℕ) → Accepted (Keeps (matrix flags bytes at)) (plan F limit (matrix flags bytes at) k)
-  unfolding plan act
+  unfolding plan act turns
   keeps-matrix flags bytes at =
       on-matrix (Keeps (matrix flags bytes at)) f (k .state) (k .matrices) flags bytes at
-      (λ _ s′ q. combined-keeps (matrix flags bytes at) s′ _ (ap partsOf q ∙ turned-parts _ _ _ (k .state) (matrixAt bytes at)) refl)
+      (λ _ s′ q.
+      product-keeps (matrix flags bytes at) s′ _ (ap partsOf q ∙ turned-parts _ _ _ (k .state) (matrixAt bytes at)) (ap settingsOf q ∙ turned-settings _ _ _ (k .state) (matrixAt bytes at)) refl)
 
   keeps-force : (bytes : List ℕ) (at : ℕ) → Accepted (Keeps (force bytes at)) (plan F limit (force bytes at) k)
   unfolding plan act
   keeps-force bytes at =
-      on-force (Keeps (force bytes at)) (k .state) (k .matrices) bytes at (λ _. combined-keeps (force bytes at) (k .state) (laid (matrixAt bytes at)) refl refl)
+      on-force (Keeps (force bytes at)) (k .state) (k .matrices) bytes at
+      (λ _. combined-keeps (force bytes at) (k .state) (spaceOf (k .state)) (laid (matrixAt bytes at)) refl refl refl)
 
   keeps-pop : (count : ℕ) → Accepted (Keeps (pop count)) (plan F limit (pop count) k)
-  unfolding plan act
+  unfolding plan act pops
   keeps-pop count =
+      let d : ℕ = popped count (k .state .depth) in
+      let x : Space = deep (spaceOf (k .state)) d in
       on-pop (Keeps (pop count)) (k .state) (k .matrices) count
-      (λ _. rw (pick-true (eqb (k .state .depth) (k .state .depth)) h (combines (k .state) h) (eq-eqb (k .state .depth) (k .state .depth) refl)) (rests (k .state) refl))
-      (λ q s′ z.
-      combined-keeps (pop count) s′ _ (ap partsOf z)
-      (pick-false (eqb (s′ .depth) (k .state .depth)) h (combines (withCombined s′ _ true) h) (ap (λ (u : State). eqb (u .depth) (k .state .depth)) z ∙ q)))
+      (λ q. rw (pick-true (eqb d (k .state .depth)) h (combines x (productOf x) h) q) (rests (k .state) (settingsOf (k .state)) refl refl))
+      (λ q s′ z. product-keeps (pop count) s′ x (ap partsOf z) (ap settingsOf z) (pick-false (eqb d (k .state .depth)) h (combines x (productOf x) h) q))
 
   keeps-viewport : (bytes : List ℕ) (at : ℕ) → Accepted (Keeps (viewport bytes at)) (plan F limit (viewport bytes at) k)
   unfolding plan act
   keeps-viewport bytes at =
       on-viewport (Keeps (viewport bytes at)) (k .state) (k .viewports) bytes at
-      (λ _ q. record { count = counted-then k (k .state) (edits2 keep) (I .count); ties = viewport-held (I .ties) (viewportEntry bytes at) q })
-      (λ _ q _. record { count = counted-then k (k .state) (edits2 (grow (viewportEntry bytes at ∷ []))) (I .count); ties = viewport-appended (I .ties) (viewportEntry bytes at) q })
+      (λ _ q. record { count = counted-then k (k .state) (edits2 keep) (I .count); settings = refl; ties = viewport-held (I .ties) (viewportEntry bytes at) q })
+      (λ _ q _. record { count = counted-then k (k .state) (edits2 (grow (viewportEntry bytes at ∷ []))) (I .count); settings = refl; ties = viewport-appended (I .ties) (viewportEntry bytes at) q })
 
   -- ---- settings
 
@@ -142,8 +165,9 @@ module _ (F : ℕ → Family) (limit : State → ℕ) (seats : ℕ) (few : seats
       (λ _.
       on-then (Keeps (geometry off on)) _ _ _
       (λ t q.
-      relights t _ (ap partsOf q)
-      (λ z c. I .ties .current .lights z (or-left (k .state .lights .changed) (relit f (k .state .geometry) (geometryAfter off on (k .state .geometry))) c))))
+      subst (λ (s : Settings). Inv seats (enter t untouched k) (sets s h)) (ap settingsOf q)
+      (relights t _ (ap partsOf q)
+      (λ z c. I .ties .current .lights z (or-left (k .state .lights .changed) (relit f (k .state .geometry) (geometryAfter off on (k .state .geometry))) c)))))
     where
       or-left : (a b : Bool) → a || b ≡ false → a ≡ false
       or-left true b e = absurd (false≢true (sym e))
@@ -152,7 +176,7 @@ module _ (F : ℕ → Family) (limit : State → ℕ) (seats : ℕ) (few : seats
   -- lights that are marked changed
   marked-keeps : (c : Command) (t : State) (l : Lights)
       → partsOf t ≡ record { columns = partsOf (k .state) .columns; lights = l; lookat = k .state .lookat; unit = k .state .unit } → l .changed ≡ true
-      → act f c (k .state) t h ≡ h → Accepted (Keeps c) (does [] t untouched)
+      → act F c h ≡ sets (settingsOf t) h → Accepted (Keeps c) (does [] t untouched)
   marked-keeps c t l e m a = on-does (Keeps c) [] t untouched (rw a (relights t l e (λ _ q. absurd (false≢true (sym q ∙ m)))))
 
   keeps-number : (bytes : ℕ) → Accepted (Keeps (number bytes)) (plan F limit (number bytes) k)
@@ -160,13 +184,16 @@ module _ (F : ℕ → Family) (limit : State → ℕ) (seats : ℕ) (few : seats
   keeps-number bytes = on-unless (Keeps (number bytes)) (stateSound (k .state)) 10 [] _ (λ _. marked-keeps (number bytes) _ _ refl refl refl)
 
   keeps-light : (slot : ℕ) (bytes : List ℕ) (at : ℕ) → Accepted (Keeps (light slot bytes at)) (plan F limit (light slot bytes at) k)
-  unfolding plan act lightPlan ambientPlan slotPlan
+  unfolding plan act lightPlan ambientPlan slotPlan lightIn lampTo
   keeps-light slot bytes at =
       on-unless Q (stateSound (k .state)) 10 [] _
       (λ _.
-      on-pick Q (eqb slot (k .state .lights .number)) _ _ (λ _. on-unless Q _ 7 _ _ (λ _. marked-keeps (light slot bytes at) _ _ refl refl refl))
-      (λ _. on-unless Q _ 7 _ _ (λ _. marked-keeps (light slot bytes at) _ _ refl refl refl)))
+      on-pick Q (eqb slot (k .state .lights .number)) _ _ (λ q. on-unless Q _ 7 _ _ (λ _. marked-keeps (light slot bytes at) _ _ refl refl (ap set-lamps (pick-true _ _ _ q))))
+      (λ q. on-unless Q _ 7 _ _ (λ _. marked-keeps (light slot bytes at) _ _ refl refl (ap set-lamps (pick-false _ _ _ q)))))
     where
+      set-lamps : Lamps → Bench
+      set-lamps l = sets (withLamps (settingsOf (k .state)) l) h
+
       Q : List ℕ → State → Edits → Type 0
       Q = Keeps (light slot bytes at)
 
@@ -178,7 +205,7 @@ module _ (F : ℕ → Family) (limit : State → ℕ) (seats : ℕ) (few : seats
       on-unless Q _ 7 _ _
       (λ _.
       on-does Q _ _ _
-      (record { count = counted-then k (k .state) untouched (I .count); ties = record { current = I .ties .current; standing = I .ties .standing } })))
+      (record { count = counted-then k (k .state) untouched (I .count); settings = refl; ties = record { current = I .ties .current; standing = I .ties .standing } })))
     where
       Q : List ℕ → State → Edits → Type 0
       Q = Keeps (lookat slot bytes at)
@@ -189,7 +216,7 @@ module _ (F : ℕ → Family) (limit : State → ℕ) (seats : ℕ) (few : seats
       on-unless (Keeps (microcode to)) (stateSound (k .state)) 10 [] _
       (λ _.
       on-does (Keeps (microcode to)) _ _ _
-      (record { count = counted-then k (k .state) untouched (I .count); ties = record { current = I .ties .current; standing = slots-unloaded (I .ties .standing) 256 few } }))
+      (record { count = counted-then k (k .state) untouched (I .count); settings = refl; ties = record { current = I .ties .current; standing = slots-unloaded (I .ties .standing) 256 few } }))
 
   -- ---- load and modify
 
@@ -257,17 +284,18 @@ module _ (F : ℕ → Family) (limit : State → ℕ) (seats : ℕ) (few : seats
         go false = triangle-drawn S a b c ea eb ec six _ X marks long apart
 
     keeps-draw : Accepted (Keeps (draw a b c material mode colour prim)) (plan F limit (draw a b c material mode colour prim) k)
-    unfolding plan act
+    unfolding plan act draws
     keeps-draw =
         on-draw (Keeps (draw a b c material mode colour prim)) f slots (k .state) (k .drawing .indices) (k .drawing .runs) a b c asked
-        (λ q. rw (pick-true (both f (k .state .geometry)) h _ q) (rests (k .state) refl))
+        (λ q. rw (pick-true (both f (k .state .geometry)) h _ q) (rests (k .state) (settingsOf (k .state)) refl refl))
         (λ q held _ z _.
-        rw (pick-false (both f (k .state .geometry)) h (withTriangle h (given f (k .state) h a b c asked)) q)
+        rw (pick-false (both f (k .state .geometry)) h (withTriangle h (given f h a b c asked)) q)
         (record {
           count = counted-then k (k .state) (edits89 (grow (triangle f (k .state) a b c)) (runEdit (k .drawing .runs .used) (length (k .drawing .indices .used)) six)) (I .count);
+          settings = refl;
           ties = record {
             current = I .ties .current;
-            standing = drawn-keeps held (extended (k .drawing .runs .used) (length (k .drawing .indices .used)) six refl (I .ties .standing .reached) (I .ties .standing .whole) z) (swaps f (k .state .geometry)) refl;
+            standing = drawn-keeps held (extended (k .drawing .runs .used) (length (k .drawing .indices .used)) six refl (I .ties .standing .tiled) (I .ties .standing .whole) z) (swaps f (k .state .geometry)) refl;
           };
         }))
 
@@ -281,16 +309,16 @@ module _ (F : ℕ → Family) (limit : State → ℕ) (seats : ℕ) (few : seats
   keeps (viewport bytes at) = keeps-viewport bytes at
   keeps (geometry off on) = keeps-geometry off on
   keeps (texture tile level on sc tc) =
-      on-unless (Keeps (texture tile level on sc tc)) (stateSound (k .state)) 10 [] _ (λ _. on-then (Keeps (texture tile level on sc tc)) _ _ _ (λ t q. rests t (ap partsOf q)))
+      on-unless (Keeps (texture tile level on sc tc)) (stateSound (k .state)) 10 [] _ (λ _. on-then (Keeps (texture tile level on sc tc)) _ _ _ (λ t q. rests t _ (ap partsOf q) (ap settingsOf q)))
   keeps (fog multiplier offset) =
-      on-unless (Keeps (fog multiplier offset)) (stateSound (k .state)) 10 [] _ (λ _. on-then (Keeps (fog multiplier offset)) _ _ _ (λ t q. rests t (ap partsOf q)))
+      on-unless (Keeps (fog multiplier offset)) (stateSound (k .state)) 10 [] _ (λ _. on-then (Keeps (fog multiplier offset)) _ _ _ (λ t q. rests t _ (ap partsOf q) (ap settingsOf q)))
   keeps (number bytes) = keeps-number bytes
   keeps (light slot bytes at) = keeps-light slot bytes at
   keeps (lookat slot bytes at) = keeps-lookat slot bytes at
   keeps (microcode to) = keeps-microcode to
   keeps (load first count bytes at) = keeps-load first count bytes at
-  keeps (cull first last) = on-cull (Keeps (cull first last)) slots (k .state) first last (λ _ _ _. rests (k .state) refl)
-  keeps (depth slot threshold) = on-depth (Keeps (depth slot threshold)) slots (k .state) slot threshold (λ _ _. rests (k .state) refl)
+  keeps (cull first last) = on-cull (Keeps (cull first last)) slots (k .state) first last (λ _ _ _. rests (k .state) (settingsOf (k .state)) refl refl)
+  keeps (depth slot threshold) = on-depth (Keeps (depth slot threshold)) slots (k .state) slot threshold (λ _ _. rests (k .state) (settingsOf (k .state)) refl refl)
   keeps (modify slot attribute value) = keeps-modify slot attribute value
   keeps (draw a b c material mode colour prim) = keeps-draw a b c material mode colour prim
-  keeps (ink colour) = on-ink (Keeps (ink colour)) (k .state) (k .rows) (k .drawing .indices) colour (λ _. rests (k .state) refl)
+  keeps (ink colour) = on-ink (Keeps (ink colour)) (k .state) (k .rows) (k .drawing .indices) colour (λ _. rests (k .state) (settingsOf (k .state)) refl refl)

@@ -9,6 +9,6 @@ pub mod Loaded
 pub mod Loading
 pub mod Modified
 pub mod Keeps
+pub mod Owned
 pub mod Finished
 pub mod Refuted
-pub mod Blind

@@ -24,7 +24,7 @@ use Rattle.finished.specs.Shown.{Corner, Entries, Triangle, fogShown, sh
 use Rattle.finished.specs.Bench.{Values, corner, seated}
 use Rattle.finished.proofs.Growing.{Sound}
 use Rattle.finished.proofs.Standing.{Standing, row-filled}
-use Rattle.finished.proofs.Ties.{partsOf}
+use Rattle.finished.proofs.Ties.{partsOf, settingsOf}
 
 -- what the rows of a load share stands in the tables, as the values that the bench holds
 pub record Shares (f : Family) (s : State) (t : Entries) (e : Shared) (h : Values) : Type 0 where
@@ -59,7 +59,7 @@ module _ (f : Family) (s : State) (t : Entries) (e : Shared) (h : Values) (S : S
   looks false q = ap some (S .lookat (eqb-false (texgenMode f (s .geometry)) 0 q) .1)
 
   -- it shows the vertex by value
-  row-shown : (v : Vertex) → shown t (vertexRow e v) ≡ corner f s h v
+  row-shown : (v : Vertex) → shown t (vertexRow e v) ≡ corner f (settingsOf s) h v
   unfolding shown shownBy corner wordsOf
   row-shown v = λ i.
       record {
@@ -78,7 +78,7 @@ module _ (f : Family) (s : State) (t : Entries) (e : Shared) (h : Values) (S : S
   -- vertex by vertex: rows behind those in use, slots from k on
   pub rows-loaded : (m : List (List Float)) (seats : ℕ) (vs : List Vertex) (u : State) (rows : List Row) (indices runs : List (List ℕ)) (l : List Corner) (ts : List Triangle) (k : ℕ)
       → Standing seats t rows indices runs (partsOf u .columns) l ts → k + length vs ≤ seats
-      → Standing seats t (rows ++ map (vertexRow e) vs) indices runs (partsOf (fillSlots u m e k (length rows) vs) .columns) (seated l k (map (corner f s h) vs)) ts
+      → Standing seats t (rows ++ map (vertexRow e) vs) indices runs (partsOf (fillSlots u m e k (length rows) vs) .columns) (seated l k (map (corner f (settingsOf s) h) vs)) ts
   unfolding fillSlots fillSlot
   rows-loaded m seats [] u rows indices runs l ts k I r = rw (append-nil rows) I
   rows-loaded m seats (v ∷ vs) u rows indices runs l ts k I r =

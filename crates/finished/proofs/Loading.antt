@@ -2,6 +2,7 @@
 use mathlib.Core.Path.{_≡_, refl, sym, _∙_}
 use Prim.Native.Nat.{ℕ, _+_, _-_, _≤_}
 use native.Mathlib.Omega.{arith}
+use mathlib.Core.Bool.{Bool, true, false}
 use mathlib.Core.List.{List, [], _∷_, map}
 use lib.ListN.{length}
 use lib.Dec.{eqb}
@@ -17,22 +18,26 @@ use Rattle.vertex.specs.declared.Shared.{Shared}
 use Rattle.vertex.specs.declared.Slot.{Slot}
 use Rattle.vertex.specs.Vertices.{slotOf}
 use Rattle.stage.specs.declared.State.{State}
+use Rattle.stage.specs.declared.Lights.{Lights}
+use Rattle.stage.specs.declared.Lookat.{Lookat}
 use Rattle.stage.specs.declared.load.Settled.{Settled}
-use Rattle.stage.specs.Plan.{Edits}
-use Rattle.stage.specs.Matrices.{modelTop}
-use Rattle.stage.specs.Load.{combinedNow, fogPair, settled, settledState, sharedBy, loadEdits}
+use Rattle.stage.specs.Plan.{Edits, pick}
+use Rattle.stage.specs.With.{foldedLights, foldedLookat}
+use Rattle.stage.specs.Matrices.{modelTop, product}
+use Rattle.stage.specs.Load.{fogPair, settled, settledState, sharedBy, loadEdits}
 use Rattle.stage.specs.Rows.{fillSlot, fillSlots}
 use Rattle.sequence.specs.Sequence.{Book}
 use Rattle.sequence.proofs.Turn.{edit, enter}
 use Rattle.finished.specs.Shown.{Entries, entriesOf}
-use Rattle.finished.specs.Bench.{Values, Bench, settledValues, corner, seated, loads}
+use Rattle.finished.specs.Settings.{foldedWith, lampsFold, axesFold, lightsDue, lookatDue, loadedWith}
+use Rattle.finished.specs.Bench.{Values, Bench, moved, settledValues, corner, seated, loads}
 use Rattle.finished.proofs.Lists.{longer-length, longer-at, same}
 use Rattle.finished.proofs.Growing.{Grown}
 use Rattle.finished.proofs.Standing.{Standing, tables-grow}
 use Rattle.finished.proofs.Settled.{longer-if, matrix-settled, scale-settled, lights-settled, lights-shared, lookat-settled, lookat-shared, fog-settled}
 use Rattle.finished.proofs.Loaded.{Shares, rows-loaded}
 use Rattle.sequence.proofs.Counted.{counted-then, edit-counted}
-use Rattle.finished.proofs.Ties.{partsOf, CurrentIn, Inv}
+use Rattle.finished.proofs.Ties.{partsOf, lampsOf, axesOf, settingsOf, CurrentIn, Inv}
 
 -- what no slot's filling changes, no load's rows change
 fills-keep : {A : Type 0} (g : State → A) → ((u : State) (k r : ℕ) (v : Slot) → g (fillSlot u k r v) ≡ g u)
@@ -40,6 +45,17 @@ fills-keep : {A : Type 0} (g : State → A) → ((u : State) (k r : ℕ) (v : Sl
 unfolding fillSlots
 fills-keep g h u m e k r [] = refl
 fills-keep g h u m e k r (v ∷ vs) = fills-keep g h (fillSlot u k r (slotOf m e v)) m e (k + 1) (r + 1) vs ∙ h u k r (slotOf m e v)
+
+-- lights, and axes, folded anew or not
+lamps-then : (b : Bool) (l : Lights) (m : List Float) (n : ℕ) → lampsOf (pick b (foldedLights l m n) l) ≡ lampsFold (lampsOf l) (pick b (foldedWith m) (lampsOf l .fold))
+unfolding pick
+lamps-then true l m n = refl
+lamps-then false l m n = refl
+
+axes-then : (b : Bool) (l : Lookat) (m : List Float) (n : ℕ) → axesOf (pick b (foldedLookat l m n) l) ≡ axesFold (axesOf l) (pick b (foldedWith m) (axesOf l .fold))
+unfolding pick
+axes-then true l m n = refl
+axes-then false l m n = refl
 
 module _ (f : Family) (seats : ℕ) (k : Book) (h : Bench) (I : Inv seats k h) (vs : List Vertex) where
   -- what is decided, and what the tables get
@@ -63,7 +79,7 @@ module _ (f : Family) (seats : ℕ) (k : Book) (h : Bench) (I : Inv seats k h) (
 
   -- the values that the bench holds then
   g : Values
-  g = settledValues f (k .state) (h .values)
+  g = settledValues f (settingsOf (k .state)) (h .values)
 
   tables : Grown (entriesOf k) t
   unfolding t loadEdits
@@ -89,7 +105,7 @@ module _ (f : Family) (seats : ℕ) (k : Book) (h : Bench) (I : Inv seats k h) (
       let n = I .count in
       record {
         some-matrix = omega (arith, c .some-matrix, longer-length (tables .matrices));
-        matrix = rw (c .matrix) (sym (matrix-settled (k .matrices .used) (combinedNow (k .state)) (k .state .defined)));
+        matrix = rw (c .matrix) (sym (matrix-settled (k .matrices .used) (k .state .combined) (product (k .state)) (k .state .defined)));
         some-viewport = c .some-viewport;
         viewport = c .viewport;
         scale = rw (c .scale) (sym (scale-settled (k .scales .used) (k .state .texture .sc) (k .state .texture .tc) .0));
@@ -121,7 +137,7 @@ module _ (f : Family) (seats : ℕ) (k : Book) (h : Bench) (I : Inv seats k h) (
   standing-then : (first : ℕ) → first + length vs ≤ seats
       → Standing seats t (edit (e .rows) (k .rows .used)) (k .drawing .indices .used) (k .drawing .runs .used)
       (partsOf (fillSlots (settledState d (k .state)) (rows (d .combined) 0) (sharedBy d (k .state)) first (k .state .counts .rows) vs) .columns)
-      (seated (h .slots) first (map (corner f (k .state) g) vs)) (h .triangles)
+      (seated (h .slots) first (map (corner f (settingsOf (k .state)) g) vs)) (h .triangles)
   unfolding loadEdits settledState
   standing-then first fits =
       let u : State = settledState d (k .state) in
@@ -129,9 +145,20 @@ module _ (f : Family) (seats : ℕ) (k : Book) (h : Bench) (I : Inv seats k h) (
       let K = rows-loaded f (k .state) t (sharedBy d (k .state)) g shares (rows (d .combined) 0) seats vs u (k .rows .used) (k .drawing .indices .used) (k .drawing .runs .used) (h .slots) (h .triangles) first J fits in
       rw (I .count .rows) at K
 
+  -- the settings that the bench holds then are those of the state
+  settings-then : settingsOf (settledState d (k .state)) ≡ loadedWith f (settingsOf (k .state))
+  unfolding settled settledState loadedWith
+  settings-then = λ i.
+      record {
+        modes = settingsOf (k .state) .modes;
+        space = settingsOf (k .state) .space;
+        lights = lamps-then (lightsDue f (settingsOf (k .state))) (k .state .lights) (laid (modelTop (k .state))) (k .state .counts .lights) i;
+        lookat = axes-then (lookatDue f (settingsOf (k .state))) (k .state .lookat) (laid (modelTop (k .state))) (k .state .counts .lookats) i;
+      }
+
   -- THE INVARIANT AFTER A LOAD
   pub load-keeps : (first : ℕ) → first + length vs ≤ seats
-      → Inv seats (enter (fillSlots (settledState d (k .state)) (rows (d .combined) 0) (sharedBy d (k .state)) first (k .state .counts .rows) vs) e k) (loads f (k .state) first vs (settledValues f (k .state) (h .values)) h)
+      → Inv seats (enter (fillSlots (settledState d (k .state)) (rows (d .combined) 0) (sharedBy d (k .state)) first (k .state .counts .rows) vs) e k) (loads f first vs (moved h (settingsOf (k .state)) (h .values)))
   unfolding t g settledValues loadEdits fillSlot
   load-keeps first fits =
       let u : State = settledState d (k .state) in
@@ -140,6 +167,7 @@ module _ (f : Family) (seats : ℕ) (k : Book) (h : Bench) (I : Inv seats k h) (
       let n : ℕ = k .state .counts .rows in
       record {
         count = counted-then k (k .state) e (I .count);
+        settings = fills-keep settingsOf (λ _ _ _ _. refl) u m x first n vs ∙ settings-then;
         ties = record {
           current = rw (
             fills-keep (λ (y : State). y .lights) (λ _ _ _ _. refl) u m x first n vs,

@@ -236,6 +236,7 @@ module _ (limit seats : ℕ) (k : Book) (h : Bench) (I : Inv seats k h) (slot : 
   unfolding changed modifies
   modify-keeps =
       record {
+        settings = I .settings;
         count = counted-then k (k .state) (edits37 (scaleEdit c (k .state)) (rowChange c m (k .state) (k .rows) slot)) (I .count);
         ties = record { current = current-then; standing = standing-then };
       }

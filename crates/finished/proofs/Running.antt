@@ -1,6 +1,6 @@
 -- The runs of a draw: what holds a triangle goes on holding it, and the new one is held by its own settings. Assumes nothing.
 use mathlib.Core.Path.{_≡_, refl, sym, ap, _∙_}
-use Prim.Native.Nat.{ℕ, zero, suc, _+_, _-_, _≤_, _<_}
+use Prim.Native.Nat.{ℕ, zero, suc, _+_, _-_, _%_, _≤_, _<_}
 use native.Mathlib.Omega.{arith}
 use mathlib.Core.Bool.{Bool, true, false, _&&_, _||_}
 use mathlib.Core.List.{List, [], _∷_, _++_}
@@ -26,6 +26,31 @@ reach o r = getD r (o + startField) 0 + getD r (o + countField) 0
 -- every run ends at n or before
 abbrev pub Reached : ℕ → List (List ℕ) → ℕ → Type 0
 Reached o rs n = (j : ℕ) → j < length rs → reach o (getD rs j []) ≤ n
+
+-- runs one behind the other from index a to n, each of whole triangles
+abbrev pub Tiled : ℕ → List (List ℕ) → ℕ → Type 0
+Tiled a [] n = a ≡ n
+Tiled a (r ∷ rs) n = (getD r startField 0 ≡ a) × (getD r countField 0 % 3 ≡ 0) × Tiled (reach 0 r) rs n
+
+-- so each ends at n or before
+tiled-le : (a : ℕ) (rs : List (List ℕ)) (n : ℕ) → Tiled a rs n → a ≤ n
+tiled-le a [] n t = omega (arith, t)
+tiled-le a (r ∷ rs) n t = omega (arith, t .0, tiled-le (reach 0 r) rs n (t .2))
+
+tiled-reached : (a : ℕ) (rs : List (List ℕ)) (n : ℕ) → Tiled a rs n → Reached 0 rs n
+tiled-reached a [] n t j h = absurd (omega arith)
+tiled-reached a (r ∷ rs) n t zero h = tiled-le (reach 0 r) rs n (t .2)
+tiled-reached a (r ∷ rs) n t (suc j) h = tiled-reached (reach 0 r) rs n (t .2) j (omega arith)
+
+-- one run more, or the last one longer by a triangle
+tiled-grow : (a : ℕ) (rs : List (List ℕ)) (n : ℕ) (q : List ℕ) → Tiled a rs n → getD q startField 0 ≡ n → getD q countField 0 ≡ 3 → Tiled a (rs ++ q ∷ []) (n + 3)
+tiled-grow a [] n q t s c = (s ∙ sym t, rw c, omega arith)
+tiled-grow a (r ∷ rs) n q t s c = (t .0, t .1, tiled-grow (reach 0 r) rs n q (t .2) s c)
+
+tiled-last : (a : ℕ) (rs : List (List ℕ)) (n : ℕ) (r q : List ℕ) → Tiled a (rs ++ r ∷ []) n → getD q startField 0 ≡ getD r startField 0 → getD q countField 0 ≡ getD r countField 0 + 3
+    → Tiled a (rs ++ q ∷ []) (n + 3)
+tiled-last a [] n r q t s c = (s ∙ t .0, omega (arith, t .1, c), omega (arith, t .2, s, c))
+tiled-last a (x ∷ rs) n r q t s c = (t .0, t .1, tiled-last (reach 0 x) rs n r q (t .2) s c)
 
 -- the settings of a run
 abbrev ownOf : ℕ → List ℕ → List ℕ
@@ -56,7 +81,7 @@ Whole rs = (j : ℕ) → j < length rs → length (getD rs j []) ≡ runWidth
 
 -- what a draw owes of the runs: rs before, qs after, n indices before it, its settings q
 pub record Extended (rs qs : List (List ℕ)) (n : ℕ) (q : List ℕ) : Type 0 where
-  pub reached : Reached 0 qs (n + 3)
+  pub tiled : Tiled 0 qs (n + 3)
   pub whole : Whole qs
   pub old : (i : ℕ) → i + 3 ≤ n → settingsAt 0 qs i ≡ settingsAt 0 rs i
   pub new : settingsAt 0 qs n ≡ q
@@ -70,15 +95,15 @@ run-count q n c l =
     let e : countField ≡ length q + 1 = omega arith in
     ap (λ (k : ℕ). getD (runOf q n c) k 0) e ∙ getD-append-add q (n ∷ c ∷ []) 1 0
 
-extended-grow : (rs : List (List ℕ)) (n : ℕ) (q : List ℕ) → length q ≡ settingsWide → Reached 0 rs n → Whole rs → Extended rs (rs ++ runOf q n 3 ∷ []) n q
-extended-grow rs n q l h w =
+extended-grow : (rs : List (List ℕ)) (n : ℕ) (q : List ℕ) → length q ≡ settingsWide → Tiled 0 rs n → Whole rs → Extended rs (rs ++ runOf q n 3 ∷ []) n q
+extended-grow rs n q l t w =
     let a = run-start q n 3 l in
     let b = run-count q n 3 l in
     record {
-      reached = snoc-cases (λ _ r. reach 0 r ≤ n + 3) rs (runOf q n 3) [] (λ j k. omega (arith, h j k)) (omega arith);
+      tiled = tiled-grow 0 rs n (runOf q n 3) t a b;
       whole = snoc-cases (λ _ r. length r ≡ runWidth) rs (runOf q n 3) [] w (omega (arith, length-append q (n ∷ 3 ∷ [])));
       old = λ i k. settings-grow 0 rs (runOf q n 3) i (and-first (leb (getD (runOf q n 3) startField 0) i) _ (lt-leb (getD (runOf q n 3) startField 0) i (omega arith)));
-      new = settings-new 0 rs (runOf q n 3) n h (and-both _ _ (le-leb (getD (runOf q n 3) startField 0) n (omega arith)) (le-leb (n + 3) (reach 0 (runOf q n 3)) (omega arith)))
+      new = settings-new 0 rs (runOf q n 3) n (tiled-reached 0 rs n t) (and-both _ _ (le-leb (getD (runOf q n 3) startField 0) n (omega arith)) (le-leb (n + 3) (reach 0 (runOf q n 3)) (omega arith)))
           ∙ take-at q (n ∷ 3 ∷ []) settingsWide l;
     }
   where
@@ -86,7 +111,7 @@ extended-grow rs n q l h w =
     and-first s t e = rw e
 
 -- the last run, with one triangle more
-module _ (rs : List (List ℕ)) (n : ℕ) (q : List ℕ) (h : Reached 0 rs n) (some-run : 0 < length rs) (same : take settingsWide (final rs) ≡ q) (full : reach 0 (final rs) ≡ n) (whole : Whole rs) where
+module _ (rs : List (List ℕ)) (n : ℕ) (q : List ℕ) (t : Tiled 0 rs n) (some-run : 0 < length rs) (same : take settingsWide (final rs) ≡ q) (full : reach 0 (final rs) ≡ n) (whole : Whole rs) where
   wide : length (final rs) ≡ runWidth
   wide = whole (length rs - 1) (omega arith)
 
@@ -116,7 +141,7 @@ module _ (rs : List (List ℕ)) (n : ℕ) (q : List ℕ) (h : Reached 0 rs n) (s
   unfolding front
   front-reached j l =
       let k : j < length rs - 1 = omega (arith, length-take-le (length rs - 1) rs (omega arith)) in
-      rw (getD-take (length rs - 1) rs j [] k) (h j (omega arith))
+      rw (getD-take (length rs - 1) rs j [] k) (tiled-reached 0 rs n t j (omega arith))
 
   start : getD r startField 0 ≡ getD (final rs) startField 0
   unfolding r
@@ -135,7 +160,7 @@ module _ (rs : List (List ℕ)) (n : ℕ) (q : List ℕ) (h : Reached 0 rs n) (s
   extended-last =
       rw after
       (record {
-        reached = snoc-cases (λ _ x. reach 0 x ≤ n + 3) front r [] (λ j l. omega (arith, front-reached j l)) (omega (arith, start, count));
+        tiled = tiled-last 0 front n (final rs) r (rw cut at t) start count;
         whole = snoc-cases (λ _ x. length x ≡ runWidth) front r [] front-whole (simp length-set wide);
         old = λ i l.
             let e : holds 0 r i ≡ holds 0 (final rs) i =
@@ -145,10 +170,10 @@ module _ (rs : List (List ℕ)) (n : ℕ) (q : List ℕ) (h : Reached 0 rs n) (s
       })
 
 -- what a draw does to the runs, where they are closed
-pub extended : (rs : List (List ℕ)) (n : ℕ) (q : List ℕ) → length q ≡ settingsWide → Reached 0 rs n → Whole rs → closed 0 rs n ≡ true
+pub extended : (rs : List (List ℕ)) (n : ℕ) (q : List ℕ) → length q ≡ settingsWide → Tiled 0 rs n → Whole rs → closed 0 rs n ≡ true
     → Extended rs (edit (runEdit rs n q) rs) n q
 unfolding runEdit sameRun closed r
-extended rs n q l h w c = pick-case (λ e. Extended rs (edit e rs) n q) (matches eqb (take settingsWide (final rs)) q) (λ e. grows (matches-eqb (take settingsWide (final rs)) q .0 e)) (λ _. extended-grow rs n q l h w)
+extended rs n q l t w c = pick-case (λ e. Extended rs (edit e rs) n q) (matches eqb (take settingsWide (final rs)) q) (λ e. grows (matches-eqb (take settingsWide (final rs)) q .0 e)) (λ _. extended-grow rs n q l t w)
   where
     some-run : take settingsWide (final rs) ≡ q → (k : ℕ) → length rs ≡ k → 0 < length rs
     some-run e zero z = absurd (omega (arith, l, ap length (sym e), none))
@@ -164,4 +189,4 @@ extended rs n q l h w c = pick-case (λ e. Extended rs (edit e rs) n q) (matches
         or-right s t e f = rw e at f
 
     grows : take settingsWide (final rs) ≡ q → Extended rs (set rs (length rs - 1) (longer 0 (final rs))) n q
-    grows e = let k = some-run e (length rs) refl in extended-last rs n q h k e (ends k) w
+    grows e = let k = some-run e (length rs) refl in extended-last rs n q t k e (ends k) w

@@ -40,12 +40,13 @@ last-place e l n h k = omega (arith, h)
 
 -- ---- matrix
 
--- the combined matrix in force is appended where it was undefined and differs
-pub matrix-settled : (ms : List (List Float)) (m : List Float) (defined : Bool)
-    → final (edit (onlyIf (not defined && not (matches eq (final ms) m)) (m ∷ [])) ms) ≡ pick defined (final ms) (renewed (final ms) m)
+-- the product is appended where the combined matrix c was undefined and the last entry differs
+pub matrix-settled : (ms : List (List Float)) (c m : List Float) (defined : Bool)
+    → let now = pick defined c m in
+    final (edit (onlyIf (not defined && not (matches eq (final ms) now)) (now ∷ [])) ms) ≡ pick defined (final ms) (renewed (final ms) m)
 unfolding pick
-matrix-settled ms m true = refl
-matrix-settled ms m false = go (matches eq (final ms) m)
+matrix-settled ms c m true = refl
+matrix-settled ms c m false = go (matches eq (final ms) m)
   where
     go : (b : Bool) → final (edit (onlyIf (not b) (m ∷ [])) ms) ≡ pick b (final ms) m
     go true = refl

@@ -14,7 +14,7 @@ use Rattle.finished.specs.Bench.{noCorner}
 use Rattle.finished.specs.Statement.{noTriangle}
 use Rattle.finished.proofs.Lists.{with-more, longer-at, none-marked, snoc-cases, set-cases}
 use Rattle.finished.proofs.Growing.{Sound, Grown, shown-stays, sound-stays}
-use Rattle.finished.proofs.Running.{Reached, Whole}
+use Rattle.finished.proofs.Running.{Tiled, Whole}
 
 -- ---- the columns of the slots
 
@@ -106,7 +106,8 @@ pub record Standing (seats : ℕ) (t : Entries) (rows : List Row) (indices runs 
   pub used : (i : ℕ) → i < length indices → named indices i < length rows
   -- each slot shows what the bench holds
   pub held : (k : ℕ) → isEver s k ≡ true → shown t (getD rows (rowIn s k) noRow) ≡ getD l k noCorner
-  pub reached : Reached 0 runs (length indices)
+  -- runs one behind the other, of whole triangles, up to the last index
+  pub tiled : Tiled 0 runs (length indices)
   pub whole : Whole runs
   pub count : length indices ≡ 3 * length ts
   -- each triangle shows what the bench gave
@@ -139,7 +140,7 @@ module _ {seats : ℕ} {t : Entries} {rows : List Row} {indices runs : List (Lis
         sound = λ i h. sound-stays (getD rows i noRow) g (I .sound i h);
         used = I .used;
         held = λ k e. shown-stays (getD rows (rowIn s k) noRow) g (I .sound (rowIn s k) (I .below k e)) ∙ I .held k e;
-        reached = I .reached;
+        tiled = I .tiled;
         whole = I .whole;
         count = I .count;
         given = λ n h.
@@ -174,7 +175,7 @@ module _ {seats : ℕ} {t : Entries} {rows : List Row} {indices runs : List (Lis
         held = fill-cases (λ j x. x .ever ≡ true → shown t (getD (rows ++ r ∷ []) (x .row) noRow) ≡ getD (set l k (shown t r)) j noCorner) seats s k (length rows) (I .full) k<
             (λ _. rw (getD-append-seam rows r [] noRow, getD-set-same l k (shown t r) noCorner (omega (arith, I .bench))))
             (λ j d e. rw (longer-at (with-more rows (r ∷ [])) noRow (rowIn s j) (I .below j e), getD-set-other l k j (shown t r) noCorner d) (I .held j e));
-        reached = I .reached;
+        tiled = I .tiled;
         whole = I .whole;
         count = I .count;
         given = λ n h.
@@ -207,7 +208,7 @@ module _ {seats : ℕ} {t : Entries} {rows : List Row} {indices runs : List (Lis
           sound = λ i h. set-cases (λ _ x. Sound t x) rows (rowIn s k) r noRow (I .below k ev) i (I .sound i (rw len at h)) sr;
           used = λ i h. rw len (I .used i h);
           held = λ j h. held-then j h (ℕ-discrete j k);
-          reached = I .reached;
+          tiled = I .tiled;
           whole = I .whole;
           count = I .count;
           given = λ n h.
@@ -229,7 +230,7 @@ module _ {seats : ℕ} {t : Entries} {rows : List Row} {indices runs : List (Lis
         sound = I .sound;
         used = I .used;
         held = I .held;
-        reached = I .reached;
+        tiled = I .tiled;
         whole = I .whole;
         count = I .count;
         given = I .given;

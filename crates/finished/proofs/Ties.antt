@@ -5,21 +5,21 @@ use Prim.Native.Nat.{ℕ, _+_, _-_, _<_}
 use native.Mathlib.Omega.{arith}
 use mathlib.Core.Bool.{Bool, true, false, not}
 use mathlib.Core.List.{List, [], _∷_, _++_}
-use lib.ListN.{length, getD, length-append, length-set}
+use lib.ListN.{length, getD, length-append}
 use lib.Dec.{eqb}
 use lib.Ieee.{Float, eq}
 use Rattle.areas.specs.Area.{matches}
 use Rattle.decide.specs.Append.{final}
 use Rattle.change.specs.Decoded.{unitEntry}
 use Rattle.stage.specs.declared.State.{State}
-use Rattle.stage.specs.declared.Counts.{Counts}
 use Rattle.stage.specs.declared.Lights.{Lights}
 use Rattle.stage.specs.declared.Lookat.{Lookat}
-use Rattle.stage.specs.Plan.{Edit, keep, grow, patch, Edits, Row, counted}
+use Rattle.stage.specs.Plan.{Row}
 use Rattle.sequence.specs.Sequence.{Book}
 use Rattle.sequence.proofs.Counted.{Counted}
-use Rattle.finished.specs.Shown.{Entries, entriesOf}
-use Rattle.finished.specs.Bench.{Values, Bench, renewed, newMatrix, newViewport, withValues}
+use Rattle.finished.specs.Shown.{Corner, Triangle, Entries, entriesOf}
+use Rattle.finished.specs.Settings.{Settings, Space, Lamps, Axes}
+use Rattle.finished.specs.Bench.{Values, Bench, renewed, newMatrix, newViewport}
 use Rattle.finished.proofs.Lists.{same, with-more, final-snoc, pick-true, pick-false}
 use Rattle.finished.proofs.Growing.{Grown}
 use Rattle.finished.proofs.Settled.{LightsAt}
@@ -54,13 +54,34 @@ pub record Current (t : Entries) (l : Lights) (folded : Bool) (place u : ℕ) (v
 abbrev pub CurrentIn : Entries → Parts → Values → Type 0
 CurrentIn t x v = Current t (x .lights) (x .lookat .folded) (x .lookat .place) (x .unit) v
 
-pub record Ties (seats : ℕ) (t : Entries) (rows : List Row) (indices runs : List (List ℕ)) (x : Parts) (h : Bench) : Type 0 where
-  pub current : CurrentIn t x (h .values)
-  pub standing : Standing seats t rows indices runs (x .columns) (h .slots) (h .triangles)
+-- v the bench's values, l its slots, ts what it gave
+pub record Ties (seats : ℕ) (t : Entries) (rows : List Row) (indices runs : List (List ℕ)) (x : Parts) (v : Values) (l : List Corner) (ts : List Triangle) : Type 0 where
+  pub current : CurrentIn t x v
+  pub standing : Standing seats t rows indices runs (x .columns) l ts
+
+-- the settings of a state, as the bench has them: its matrices, lights and axes, and all
+abbrev pub spaceOf : State → Space
+spaceOf s = record { depth = s .depth; stack = s .stack; projection = s .projection; defined = s .defined }
+
+abbrev pub lampsOf : Lights → Lamps
+lampsOf l = record { number = l .number; directions = l .directions; colours = l .colours; ambient = l .ambient; fold = record { changed = l .changed; folded = l .folded; top = l .top } }
+
+abbrev pub axesOf : Lookat → Axes
+axesOf l = record { axes = l .axes; fold = record { changed = l .changed; folded = l .folded; top = l .top } }
+
+abbrev pub settingsOf : State → Settings
+settingsOf s =
+    record {
+      modes = record { microcode = s .microcode; geometry = s .geometry; fog = s .fogmul ∷ s .fogoff ∷ []; sc = s .texture .sc; tc = s .texture .tc };
+      space = spaceOf s;
+      lights = lampsOf (s .lights);
+      lookat = axesOf (s .lookat);
+    }
 
 pub record Inv (seats : ℕ) (k : Book) (h : Bench) : Type 0 where
   pub count : Counted k
-  pub ties : Ties seats (entriesOf k) (k .rows .used) (k .drawing .indices .used) (k .drawing .runs .used) (partsOf (k .state)) h
+  pub settings : settingsOf (k .state) ≡ h .settings
+  pub ties : Ties seats (entriesOf k) (k .rows .used) (k .drawing .indices .used) (k .drawing .runs .used) (partsOf (k .state)) (h .values) (h .slots) (h .triangles)
 
 -- ---- matrix and viewport
 
@@ -83,18 +104,18 @@ grown-same t =
       fogs = same (t .fogs);
     }
 
-module _ {seats : ℕ} {t : Entries} {rows : List Row} {indices runs : List (List ℕ)} {x : Parts} {h : Bench} (I : Ties seats t rows indices runs x h) (m : List Float) where
+module _ {seats : ℕ} {t : Entries} {rows : List Row} {indices runs : List (List ℕ)} {x : Parts} {v : Values} {l : List Corner} {ts : List Triangle} (I : Ties seats t rows indices runs x v l ts) (m : List Float) where
   -- the last value compares equal: it is held
-  pub matrix-held : matches eq (final (t .matrices)) m ≡ true → Ties seats t rows indices runs x (withValues h (newMatrix (h .values) m))
+  pub matrix-held : matches eq (final (t .matrices)) m ≡ true → Ties seats t rows indices runs x (newMatrix v m) l ts
   matrix-held e =
-      let q : renewed (h .values .matrix) m ≡ h .values .matrix = pick-true (matches eq (h .values .matrix) m) (h .values .matrix) m (rw (I .current .matrix) e) in
+      let q : renewed (v .matrix) m ≡ v .matrix = pick-true (matches eq (v .matrix) m) (v .matrix) m (rw (I .current .matrix) e) in
       rw q I
 
   -- it does not: the new one is appended and held
   pub matrix-appended : matches eq (final (t .matrices)) m ≡ false
-      → Ties seats (withMatrices t (t .matrices ++ m ∷ [])) rows indices runs x (withValues h (newMatrix (h .values) m))
+      → Ties seats (withMatrices t (t .matrices ++ m ∷ [])) rows indices runs x (newMatrix v m) l ts
   matrix-appended e =
-      let q : renewed (h .values .matrix) m ≡ m = pick-false (matches eq (h .values .matrix) m) (h .values .matrix) m (rw (I .current .matrix) e) in
+      let q : renewed (v .matrix) m ≡ m = pick-false (matches eq (v .matrix) m) (v .matrix) m (rw (I .current .matrix) e) in
       let c = I .current in
       let g = grown-same t in
       rw q
@@ -114,15 +135,15 @@ module _ {seats : ℕ} {t : Entries} {rows : List Row} {indices runs : List (Lis
             (record { matrices = with-more (t .matrices) (m ∷ []); viewports = g .viewports; scales = g .scales; lights = g .lights; lookats = g .lookats; fogs = g .fogs });
       })
 
-  pub viewport-held : matches eq (final (t .viewports)) m ≡ true → Ties seats t rows indices runs x (withValues h (newViewport (h .values) m))
+  pub viewport-held : matches eq (final (t .viewports)) m ≡ true → Ties seats t rows indices runs x (newViewport v m) l ts
   viewport-held e =
-      let q : renewed (h .values .viewport) m ≡ h .values .viewport = pick-true (matches eq (h .values .viewport) m) (h .values .viewport) m (rw (I .current .viewport) e) in
+      let q : renewed (v .viewport) m ≡ v .viewport = pick-true (matches eq (v .viewport) m) (v .viewport) m (rw (I .current .viewport) e) in
       rw q I
 
   pub viewport-appended : matches eq (final (t .viewports)) m ≡ false
-      → Ties seats (withViewports t (t .viewports ++ m ∷ [])) rows indices runs x (withValues h (newViewport (h .values) m))
+      → Ties seats (withViewports t (t .viewports ++ m ∷ [])) rows indices runs x (newViewport v m) l ts
   viewport-appended e =
-      let q : renewed (h .values .viewport) m ≡ m = pick-false (matches eq (h .values .viewport) m) (h .values .viewport) m (rw (I .current .viewport) e) in
+      let q : renewed (v .viewport) m ≡ m = pick-false (matches eq (v .viewport) m) (v .viewport) m (rw (I .current .viewport) e) in
       let c = I .current in
       let g = grown-same t in
       rw q

@@ -1,6 +1,6 @@
--- The bench: so many slots, each holding its vertex by value, and the triangles that it gave, each as it was when drawn. Definitions only.
--- It obeys document 01's rules on accepted commands with values in place of numbers. The settings are the stage's own, which are values
--- already; no count, row, mark or place of a table is read of a state (`blind` of proofs/Blind.antt).
+-- The bench: so many slots, each holding its vertex by value, settings of its own, and the triangles that it gave, each as it was when drawn.
+-- It obeys the stage's rules on accepted commands with values in place of numbers, and is a function of those commands alone: no state, no
+-- area and no table is an argument of it. Definitions only.
 use Prim.Native.Nat.{ℕ, _+_}
 use mathlib.Core.Bool.{Bool, true, false, not, _&&_, _||_}
 use mathlib.Core.List.{List, [], _∷_, _++_, map}
@@ -13,9 +13,11 @@ use Rattle.areas.specs.Area.{matches}
 use Rattle.areas.specs.Widths.{viewportWidth, sFloat, tFloat, screenX, screenY, screenZ}
 use Rattle.matrix.specs.Math.{identity, rows, laid}
 use Rattle.layout.specs.declared.records.Vertex.{Vertex}
+use Rattle.layout.specs.Layout.{matrixAt, directionAt}
 use Rattle.decide.specs.declared.family.Family.{Family}
 use Rattle.decide.specs.Family.{flag, lit, texgenMode}
-use Rattle.fold.specs.Decision.{refold}
+use Rattle.decide.specs.Stack.{popped}
+use Rattle.decide.specs.Lights.{lightNumber}
 use Rattle.fold.specs.Lights.{lightEntries}
 use Rattle.fold.specs.Lookat.{lookatEntry}
 use Rattle.fold.specs.Scales.{scaleEntry}
@@ -27,13 +29,13 @@ use Rattle.change.specs.declared.Asked.the-variants.{Known, Unknown}
 use Rattle.change.specs.Decoded.{decoded, unitEntry}
 use Rattle.triangle.specs.Run.{settings}
 use Rattle.triangle.specs.Slot.{both, culls, swaps}
-use Rattle.stage.specs.declared.State.{State}
-use Rattle.stage.specs.Plan.{Plan, refuse, does, pick}
+use Rattle.stage.specs.Plan.{pick}
 use Rattle.stage.specs.Opening.{zeros}
-use Rattle.stage.specs.Matrices.{modelTop}
-use Rattle.stage.specs.Load.{combinedNow, fogPair}
-use Rattle.sequence.specs.Sequence.{Command, matrix, force, pop, viewport, geometry, texture, fog, number, light, lookat, microcode, load, cull, depth, modify, draw, ink, Port, Machine, book, step}
+use Rattle.stage.specs.Matrices.{viewportEntry}
+use Rattle.stage.specs.Lights.{microcodeNumber}
+use Rattle.sequence.specs.Sequence.{Command, matrix, force, pop, viewport, geometry, texture, fog, number, light, lookat, microcode, load, cull, depth, modify, draw, ink}
 use Rattle.finished.specs.Shown.{Corner, Triangle}
+use Rattle.finished.specs.Settings.{Settings, Space, settings0, withModes, withSpace, withLamps, withAxes, topOf, productOf, definedAs, deep, turnedTo, fogTo, textureTo, microcodeTo, numbered, lampTo, axisTo, regeared, lightsDue, lookatDue, loadedWith}
 
 -- what is held by value beside the slots
 pub record Values : Type 0 where
@@ -49,6 +51,7 @@ pub record Values : Type 0 where
 
 pub record Bench : Type 0 where
   pub slots : List Corner
+  pub settings : Settings
   pub values : Values
   -- what was drawn
   pub triangles : List Triangle
@@ -61,6 +64,7 @@ unfoldable pub bench0 : ℕ → Bench
 bench0 seats =
     record {
       slots = replicate seats noCorner;
+      settings = settings0;
       values = record { matrix = laid identity; viewport = zeros viewportWidth; scale = []; lights = []; lookat = []; unit = false };
       triangles = [];
     }
@@ -78,13 +82,29 @@ newMatrix v m = record { matrix = renewed (v .matrix) m; viewport = v .viewport;
 abbrev pub newViewport : Values → List Float → Values
 newViewport v x = record { matrix = v .matrix; viewport = renewed (v .viewport) x; scale = v .scale; lights = v .lights; lookat = v .lookat; unit = v .unit }
 
--- a bench with other values
-abbrev pub withValues : Bench → Values → Bench
-withValues h v = record { slots = h .slots; values = v; triangles = h .triangles }
+-- a bench with other settings and values, or with other settings
+abbrev pub moved : Bench → Settings → Values → Bench
+moved h s v = record { slots = h .slots; settings = s; values = v; triangles = h .triangles }
 
--- the new combined matrix of the state t
-abbrev pub combines : State → Bench → Bench
-combines t h = withValues h (newMatrix (h .values) (t .combined))
+abbrev pub sets : Settings → Bench → Bench
+sets s h = moved h s (h .values)
+
+-- the combined matrix is m, and defined
+abbrev pub combines : Space → List Float → Bench → Bench
+combines x m h = moved h (withSpace (h .settings) (definedAs x true)) (newMatrix (h .values) m)
+
+-- a matrix of 64 bytes, under the three flags; the combined matrix is the product then
+unfoldable pub turns : Family → ℕ → List (List Float) → Bench → Bench
+turns f flags m h =
+    let x = turnedTo (flag (f .push) flags) (flag (f .load) flags) (flag (f .projection) flags) m (h .settings .space) in
+    combines x (productOf x) h
+
+-- only a changed depth makes the combined matrix the product
+unfoldable pub pops : ℕ → Bench → Bench
+pops count h =
+    let x = h .settings .space in
+    let d = popped count (x .depth) in
+    pick (eqb d (x .depth)) h (combines (deep x d) (productOf (deep x d)) h)
 
 -- ---- load
 
@@ -92,28 +112,23 @@ combines t h = withValues h (newMatrix (h .values) (t .combined))
 abbrev pub rescaled : List Float → List Float → List Float
 rescaled last new = pick (matches eq (take 2 last) (take 2 new)) last new
 
--- lights, or lookat axes, are folded when none are yet, when marked changed, or when the model top compares unequal to the one last folded
-abbrev pub lightsDue : Family → State → Bool
-lightsDue f s = lit f (s .geometry) && refold (s .lights .folded) (s .lights .changed) (s .lights .top) (laid (modelTop s))
-
-abbrev pub lookatDue : Family → State → Bool
-lookatDue f s = not (eqb (texgenMode f (s .geometry)) 0) && refold (s .lookat .folded) (s .lookat .changed) (s .lookat .top) (laid (modelTop s))
-
 -- what a load settles before its vertices
-unfoldable pub settledValues : Family → State → Values → Values
+unfoldable pub settledValues : Family → Settings → Values → Values
 settledValues f s v =
+    let m = rows (laid (topOf (s .space))) 0 in
     record {
-      matrix = pick (s .defined) (v .matrix) (renewed (v .matrix) (combinedNow s));
+      matrix = pick (s .space .defined) (v .matrix) (renewed (v .matrix) (productOf (s .space)));
       viewport = v .viewport;
-      scale = rescaled (v .scale) (scaleEntry (s .texture .sc) (s .texture .tc));
-      lights = pick (lightsDue f s) (lightEntries (rows (laid (modelTop s)) 0) (s .lights .directions) (s .lights .colours) (s .lights .ambient) (s .lights .number)) (v .lights);
-      lookat = pick (lookatDue f s) (lookatEntry (rows (laid (modelTop s)) 0) (s .lookat .axes)) (v .lookat);
+      scale = rescaled (v .scale) (scaleEntry (s .modes .sc) (s .modes .tc));
+      lights = pick (lightsDue f s) (lightEntries m (s .lights .directions) (s .lights .colours) (s .lights .ambient) (s .lights .number)) (v .lights);
+      lookat = pick (lookatDue f s) (lookatEntry m (s .lookat .axes)) (v .lookat);
       unit = v .unit;
     }
 
 -- a vertex by value
-unfoldable pub corner : Family → State → Values → Vertex → Corner
+unfoldable pub corner : Family → Settings → Values → Vertex → Corner
 corner f s h v =
+    let g = s .modes .geometry in
     record {
       floats = floatsOf v;
       flags = 0;
@@ -121,10 +136,10 @@ corner f s h v =
       viewport = h .viewport;
       scale = h .scale;
       colour = v .colour;
-      lights = pick (lit f (s .geometry)) (h .lights) [];
-      texgen = texgenMode f (s .geometry);
-      fog = pick (flag (f .fog) (s .geometry)) (some (fogPair s)) none;
-      lookat = pick (eqb (texgenMode f (s .geometry)) 0) none (some (h .lookat));
+      lights = pick (lit f g) (h .lights) [];
+      texgen = texgenMode f g;
+      fog = pick (flag (f .fog) g) (some (s .modes .fog)) none;
+      lookat = pick (eqb (texgenMode f g) 0) none (some (h .lookat));
     }
 
 -- the corners cs in the slots from k on
@@ -132,9 +147,11 @@ abbrev pub seated : List Corner → ℕ → List Corner → List Corner
 seated l k [] = l
 seated l k (c ∷ cs) = seated (set l k c) (k + 1) cs
 
--- the vertices in the slots from first on, once v is settled
-abbrev pub loads : Family → State → ℕ → List Vertex → Values → Bench → Bench
-loads f s first vs v h = record { slots = seated (h .slots) first (map (corner f s v) vs); values = v; triangles = h .triangles }
+-- the vertices in the slots from first on, once the values are settled
+abbrev pub loads : Family → ℕ → List Vertex → Bench → Bench
+loads f first vs h =
+    let v = settledValues f (h .settings) (h .values) in
+    record { slots = seated (h .slots) first (map (corner f (h .settings) v) vs); settings = loadedWith f (h .settings); values = v; triangles = h .triangles }
 
 -- ---- modify
 
@@ -176,7 +193,7 @@ withUnit v b =
 unfoldable pub modifies : Asked → ℕ → Bench → Bench
 modifies Unknown slot h = h
 modifies (Known c) slot h =
-    record { slots = set (h .slots) slot (changedBy c (getD (h .slots) slot noCorner)); values = withUnit (h .values) (scaled c); triangles = h .triangles }
+    record { slots = set (h .slots) slot (changedBy c (getD (h .slots) slot noCorner)); settings = h .settings; values = withUnit (h .values) (scaled c); triangles = h .triangles }
 
 -- ---- draw
 
@@ -185,8 +202,9 @@ abbrev pub turnedAs : Bool → Corner → Corner → Corner → List Corner
 turnedAs swap a b c = pick swap (c ∷ b ∷ a ∷ []) (a ∷ b ∷ c ∷ [])
 
 -- what a draw gives: the three slots' values, and its six settings
-abbrev pub given : Family → State → Bench → ℕ → ℕ → ℕ → List ℕ → Triangle
-given f s h a b c asked =
+abbrev pub given : Family → Bench → ℕ → ℕ → ℕ → List ℕ → Triangle
+given f h a b c asked =
+    let s = h .settings .modes in
     record {
       corners = turnedAs (swaps f (s .geometry)) (getD (h .slots) a noCorner) (getD (h .slots) b noCorner) (getD (h .slots) c noCorner);
       settings = settings asked (culls f (s .geometry)) (s .microcode);
@@ -194,37 +212,36 @@ given f s h a b c asked =
 
 -- a bench with one triangle more
 abbrev pub withTriangle : Bench → Triangle → Bench
-withTriangle h t = record { slots = h .slots; values = h .values; triangles = h .triangles ++ t ∷ [] }
+withTriangle h t = record { slots = h .slots; settings = h .settings; values = h .values; triangles = h .triangles ++ t ∷ [] }
+
+-- where both sides are culled nothing is drawn
+unfoldable pub draws : Family → ℕ → ℕ → ℕ → List ℕ → Bench → Bench
+draws f a b c asked h = pick (both f (h .settings .modes .geometry)) h (withTriangle h (given f h a b c asked))
 
 -- ---- commands
 
--- an accepted command, with the states before and after it
-unfoldable pub act : Family → Command → State → State → Bench → Bench
-act f (matrix flags bytes at) s t h = combines t h
-act f (force bytes at) s t h = combines t h
-act f (pop count) s t h = pick (eqb (t .depth) (s .depth)) h (combines t h)
-act f (viewport bytes at) s t h = withValues h (newViewport (h .values) (t .viewport))
-act f (geometry off on) s t h = h
-act f (texture tile level on sc tc) s t h = h
-act f (fog multiplier offset) s t h = h
-act f (number bytes) s t h = h
-act f (light slot bytes at) s t h = h
-act f (lookat slot bytes at) s t h = h
-act f (microcode to) s t h = h
-act f (load first count bytes at) s t h = loads f s first (verticesAt bytes at count) (settledValues f s (h .values)) h
-act f (cull first last) s t h = h
-act f (depth slot threshold) s t h = h
-act f (modify slot attribute value) s t h = modifies (decoded attribute value) slot h
-act f (draw a b c material mode colour prim) s t h =
-    pick (both f (s .geometry)) h (withTriangle h (given f s h a b c (material ∷ mode ∷ colour ∷ prim ∷ [])))
-act f (ink colour) s t h = h
+-- an accepted command; F is the family of each microcode, and the one in force before the command counts
+unfoldable pub act : (ℕ → Family) → Command → Bench → Bench
+act F (matrix flags bytes at) h = turns (F (h .settings .modes .microcode)) flags (matrixAt bytes at) h
+act F (force bytes at) h = combines (h .settings .space) (laid (matrixAt bytes at)) h
+act F (pop count) h = pops count h
+act F (viewport bytes at) h = moved h (h .settings) (newViewport (h .values) (viewportEntry bytes at))
+act F (geometry off on) h = sets (regeared (F (h .settings .modes .microcode)) off on (h .settings)) h
+act F (texture tile level on sc tc) h = sets (withModes (h .settings) (textureTo (h .settings) sc tc)) h
+act F (fog multiplier offset) h = sets (withModes (h .settings) (fogTo (h .settings) (multiplier ∷ offset ∷ []))) h
+act F (number bytes) h = sets (withLamps (h .settings) (numbered (h .settings .lights) (lightNumber bytes))) h
+act F (light slot bytes at) h = sets (withLamps (h .settings) (lampTo (h .settings .lights) slot bytes at)) h
+act F (lookat slot bytes at) h = sets (withAxes (h .settings) (axisTo (h .settings .lookat) slot (directionAt bytes (at + 8)))) h
+act F (microcode to) h =
+    sets (withSpace (withModes (h .settings) (microcodeTo (h .settings) (microcodeNumber to))) (definedAs (h .settings .space) false)) h
+act F (load first count bytes at) h = loads (F (h .settings .modes .microcode)) first (verticesAt bytes at count) h
+act F (cull first last) h = h
+act F (depth slot threshold) h = h
+act F (modify slot attribute value) h = modifies (decoded attribute value) slot h
+act F (draw a b c material mode colour prim) h = draws (F (h .settings .modes .microcode)) a b c (material ∷ mode ∷ colour ∷ prim ∷ []) h
+act F (ink colour) h = h
 
--- only accepted commands reach the bench; F is the family of each microcode, and the one in force before the command counts
-unfoldable pub obey : (ℕ → Family) → Command → Plan → State → Bench → Bench
-obey F c (refuse n vs) s h = h
-obey F c (does vs t e) s h = act (F (s .microcode)) c s t h
-
--- the bench beside a port, through a sequence of commands of the machine m
-unfoldable pub bench : (ℕ → Family) → Machine → List Command → Port → Bench → Bench
-bench F m [] p h = h
-bench F m (c ∷ cs) p h = bench F m cs (step m c p) (obey F c (m c (book p)) (p .state) h)
+-- the bench after some accepted commands
+unfoldable pub bench : (ℕ → Family) → List Command → Bench → Bench
+bench F [] h = h
+bench F (c ∷ cs) h = bench F cs (act F c h)

@@ -1,4 +1,5 @@
 pub mod Shown
+pub mod Settings
 pub mod Bench
 pub mod Statement
 pub mod Broken
