@@ -1,37 +1,66 @@
 -- Document 01's prologue, from the start: after it the two sides are the same; and demand 2. Assumes nothing.
 use mathlib.Core.Path.{_≡_, refl, sym, ap, _∙_, subst}
-use Prim.Native.Nat.{ℕ}
+use Prim.Native.Nat.{ℕ, _+_}
+use native.Mathlib.Omega.{arith}
 use mathlib.Core.Bool.{false, not}
 use mathlib.Core.List.{List, [], _∷_, _++_}
-use Rattle.decide.specs.Family.{familyOf}
+use lib.ListN.{length, length-append, length-map}
+use lib.Ieee.{Float}
+use Rattle.decide.specs.Family.{f3dex2, familyOf}
 use Rattle.stage.specs.declared.settings.Microcode.{Microcode}
 use Rattle.stage.specs.Sound.{limit}
 use Rattle.fold.specs.Scales.{scaleEntry, sameScale}
-use Rattle.stage.specs.Plan.{onlyIf}
-use Rattle.sequence.specs.Sequence.{Command, pop, matrix, viewport, geometry, texture, fog, number, light, lookat, load, Areas, Port, Book}
+use Rattle.stage.specs.Plan.{Plan, refuse, does, onlyIf}
+use Rattle.stage.specs.Load.{settled, loadEdits}
+use Rattle.sequence.specs.Sequence.{Command, pop, matrix, viewport, geometry, texture, fog, number, light, lookat, load, Areas, Book, book, loadOf, plan, run}
 use Rattle.sequence.proofs.Turn.{edit, turn, course}
 use Rattle.sequence.proofs.Held.{run-book}
+use Rattle.sequence.proofs.Accepts.{Accepted, on-load}
 use Rattle.original.specs.Rsp.{TextureState, default}
 use Rattle.original.specs.Walk.{World, Went, begun, execute}
-use Rattle.original.specs.Relation.{Offsets, ViewSame, Near, Same}
-use Rattle.original.specs.Domain.{IsDone, isInk, AllWithin, Prologue, prologue, stage, portScales, rustScales, before, openedAs, Demand2}
+use Rattle.original.specs.Relation.{Offsets, Meets, joined, ViewSame, Near, Same}
+use Rattle.original.specs.Domain.{Data, IsDone, isInk, AllWithin, Walked, Prologue, prologue, stage, portScales, rustScales, before, OneMore, openedAs, Demand2, BeforeIs}
 use Rattle.original.specs.Drawing.{Result, Ok, Err, texcoords-then}
 use Rattle.original.proofs.Corners.{corners-same}
+use Rattle.original.proofs.Views.{length-fours}
 use Rattle.original.proofs.Inks.{inks-rest}
 use Rattle.original.proofs.Settings.{texture-agrees, fog-agrees, number-agrees, light-agrees, lookat-agrees, geometry-agrees}
 use Rattle.original.proofs.Combined.{matrix-agrees, pop-agrees}
 use Rattle.original.proofs.Loads.{Scaled, load-scaled}
-use Rattle.original.proofs.Follows.{Owed, DoneFrom, tellings, on-books, Stepped, stepped, Follows, follows-more, follows}
-use Rattle.original.proofs.Starts.{Any, Geometry0, View0, Scale0, Rows0, begun-book, begun-is, start-near, viewport-begins, geometry-begins, scales-begun, rows-begun}
+use Rattle.original.proofs.Follows.{Owed, DoneFrom, tellings, on-books, Stepped, stepped, Follows, follows-none, follows-more, follows}
+use Rattle.original.proofs.Starts.{Any, Geometry0, View0, Scale0, Rows0, begun-book, begun-is, start-near, View1, viewport-begins, geometry-begins, scale-count, scales-begun, rows-begun}
 
 -- the texture settings that a command leaves the original with
 abbrev textured : Result Went → TextureState
 textured (Ok g) = g .world .rsp .texture-state
 textured (Err d) = default .texture-state
 
--- ---- the steps after the geometry mode, last to first
+-- the two sides at the end of the prologue
+abbrev pub Ended : Offsets → Book → World → Type 0
+Ended o k w = Same o k w × OneMore o k w
 
-module _ (p : Prologue) (rest : List Command) where
+-- where the stage has one entry more, so has the original
+also-one : {a b : ℕ} {t u : List (List Float)} → Meets a b t u → length t ≡ a + 1 → length u ≡ b + 1
+also-one {a} {b} {t} {u} M h =
+    let p : length t ≡ length (M .before) + length (M .since) = ap length (M .port-is) ∙ length-append (M .before) (M .since) in
+    let q : length u ≡ length (M .under) + length (M .since) = ap length (M .rust-is) ∙ length-append (M .under) (M .since) in
+    omega (arith, M .port-size, M .rust-size)
+
+ended : (o : Offsets) (k : Book) (w : World) → Same o k w → length (k .viewports .used) ≡ o .port2 + 1 → length (k .scales .used) ≡ o .port3 + 1 → Ended o k w
+ended o k w S a b =
+    let x = w .rsp .texcoords in (
+      S,
+      record {
+        port2 = a;
+        rust2 = sym (length-map (w .rsp .viewports .viewport-table) joined) ∙ also-one (S .space .view .table) a;
+        port3 = b;
+        rust3 = sym (length-fours (x .texcoord-table) (x .texgen-scale-table) (S .held .scales .beside)) ∙ also-one (S .held .scales .table) b;
+      },
+    )
+
+-- ---- the steps after the geometry mode, last to first. What comes after the prologue, T is to hold of, and does from its end on
+
+module _ (p : Prologue) (rest : List Command) (T : Book → World → Type 0) (onward : (k : Book) (w : World) → Ended (before p) k w → AllWithin rest → DoneFrom rest k → Follows T rest k w) where
   -- the point that the prologue's arguments say
   abbrev o : Offsets
   o = before p
@@ -42,7 +71,7 @@ module _ (p : Prologue) (rest : List Command) where
 
   -- viewport, geometry mode and matrices are set; and the texture is too
   abbrev Set : Book → World → Type 0
-  Set k w = Near _≡_ _≡_ (ViewSame (o .port2) (o .rust2)) Scale0 Rows0 k w
+  Set k w = Near _≡_ _≡_ (View1 (p .viewport)) Scale0 Rows0 k w
 
   abbrev Ready : Book → World → Type 0
   Ready k w = Set k w × (w .rsp .texture-state ≡ own)
@@ -54,28 +83,62 @@ module _ (p : Prologue) (rest : List Command) where
 
   -- what is owed of the commands cs then
   abbrev Rest : List Command → Type 0
-  Rest cs = (k : Book) (w : World) → Ready k w → AllWithin cs → DoneFrom cs k → Follows (Same o) cs k w
+  Rest cs = (k : Book) (w : World) → Ready k w → AllWithin cs → DoneFrom cs k → Follows T cs k w
 
   -- a setting that keeps what is said, and then the rest
-  then : (c : Command) → isInk c ≡ false → (cs : List Command) → Rest cs → (k : Book) (w : World) → Stepped Ready c k w → AllWithin cs → DoneFrom cs (turn (stage c k) k) → Follows (Same o) (c ∷ cs) k w
-  then c q cs f k w s h d = follows-more (Same o) Ready c q cs k w s (λ v M. f (turn (stage c k) k) v M h d)
+  then : (c : Command) → isInk c ≡ false → (cs : List Command) → Rest cs → (k : Book) (w : World) → Stepped Ready c k w → AllWithin cs → DoneFrom cs (turn (stage c k) k) → Follows T (c ∷ cs) k w
+  then c q cs f k w s h d = follows-more T Ready c q cs k w s (λ v M. f (turn (stage c k) k) v M h d)
 
-  -- the vertex, and what comes after the prologue
-  abbrev vertex : List Command
-  vertex = load (p .slot) 1 (p .vertex .bytes) (p .vertex .at) ∷ rest
+  -- the vertex
+  abbrev vertex : Command
+  vertex = load (p .slot) 1 (p .vertex .bytes) (p .vertex .at)
 
-  rest-vertex : Rest vertex
-  rest-vertex k w N h d =
-      let c : Command = load (p .slot) 1 (p .vertex .bytes) (p .vertex .at) in
-      let M = N .0 in
-      let t = w .rsp .texture-state in
-      let sc : Scaled (portScales (w .rsp .texture-state .sc) (w .rsp .texture-state .tc)) (rustScales (w .rsp .texture-state .sc) (w .rsp .texture-state .tc)) (k .state .unit) (edit (onlyIf (not (sameScale (k .scales .used) (scaleEntry (w .rsp .texture-state .sc) (w .rsp .texture-state .tc)))) (scaleEntry (w .rsp .texture-state .sc) (w .rsp .texture-state .tc) ∷ [])) (k .scales .used)) (texcoords-then (w .rsp .texture-state) (w .rsp .texcoords)) =
-      rw (M .held .scales .0, M .held .scales .1, M .held .scales .2) (scales-begun (w .rsp .texture-state) (M .modes .settings .small .0) (M .modes .settings .small .1)) in
-      let own-sc : Scaled (o .port3) (o .rust3) (k .state .unit) (edit (onlyIf (not (sameScale (k .scales .used) (scaleEntry (w .rsp .texture-state .sc) (w .rsp .texture-state .tc)))) (scaleEntry (w .rsp .texture-state .sc) (w .rsp .texture-state .tc) ∷ [])) (k .scales .used)) (texcoords-then (w .rsp .texture-state) (w .rsp .texcoords)) =
-      subst (λ (x : TextureState). Scaled (portScales (x .sc) (x .tc)) (rustScales (x .sc) (x .tc)) (k .state .unit) (edit (onlyIf (not (sameScale (k .scales .used) (scaleEntry (w .rsp .texture-state .sc) (w .rsp .texture-state .tc)))) (scaleEntry (w .rsp .texture-state .sc) (w .rsp .texture-state .tc) ∷ [])) (k .scales .used)) (texcoords-then (w .rsp .texture-state) (w .rsp .texcoords))) (N .1) sc in
-      follows-more (Same o) (Same o) c refl rest k w
-      (stepped (Same o) c k w (load-scaled M own-sc (rows-begun o (k .rows .used) (w .scene .columns) (M .held .rows)) (p .slot) 1 (p .vertex .bytes) (p .vertex .at) (h .0)) (d .0))
-      (λ v S. follows o rest (turn (stage c k) k) v S (h .1) (d .1))
+  module _ (k : Book) (w : World) (N : Ready k w) where
+    abbrev x : TextureState
+    x = w .rsp .texture-state
+
+    -- the entry that it makes, and table 3 with it
+    abbrev e : List Float
+    e = scaleEntry (w .rsp .texture-state .sc) (w .rsp .texture-state .tc)
+
+    abbrev scales : List (List Float)
+    scales = edit (onlyIf (not (sameScale (k .scales .used) e)) (e ∷ [])) (k .scales .used)
+
+    scaled : Scaled (o .port3) (o .rust3) (k .state .unit) scales (texcoords-then (w .rsp .texture-state) (w .rsp .texcoords))
+    scaled =
+        let h = N .0 .held .scales in
+        subst (λ (y : TextureState). Scaled (portScales (y .sc) (y .tc)) (rustScales (y .sc) (y .tc)) (k .state .unit) scales (texcoords-then (w .rsp .texture-state) (w .rsp .texcoords))) (N .1)
+        (rw (h .0, h .1, h .2) (scales-begun (w .rsp .texture-state) (N .0 .modes .settings .small .0) (N .0 .modes .settings .small .1)))
+
+    viewed : Near _≡_ _≡_ (ViewSame (o .port2) (o .rust2)) Scale0 Rows0 k w
+    viewed =
+        let s = N .0 .space in
+        record { count = N .0 .count; modes = N .0 .modes; space = record { matrices = s .matrices; defined = s .defined; view = s .view .0 }; held = N .0 .held }
+
+    vertex-owed : Data (p .vertex .bytes) → Owed (Same o) vertex k w
+    vertex-owed I = load-scaled viewed scaled (rows-begun o (k .rows .used) (w .scene .columns) (N .0 .held .rows)) (p .slot) 1 (p .vertex .bytes) (p .vertex .at) I
+
+    scale-one : length scales ≡ o .port3 + 1
+    scale-one = subst (λ (y : TextureState). length scales ≡ portScales (y .sc) (y .tc) + 1) (N .1) (rw (N .0 .held .scales .1) (scale-count (w .rsp .texture-state) (N .0 .modes .settings .small .0) (N .0 .modes .settings .small .1)))
+
+    vertex-counts : Accepted (λ vs t d. (length (edit (d .viewports) (k .viewports .used)) ≡ o .port2 + 1) × (length (edit (d .scales) (k .scales .used)) ≡ o .port3 + 1)) (stage vertex k)
+    unfolding plan loadEdits settled
+    vertex-counts = on-load _ f3dex2 256 (k .state) (loadOf k) (p .slot) 1 (p .vertex .bytes) (p .vertex .at) (λ _ _ _. (N .0 .space .view .1, rw (N .0 .modes .settings .texture) scale-one))
+
+    vertex-ends : Data (p .vertex .bytes) → IsDone (stage vertex k) → Stepped (Ended o) vertex k w
+    unfolding turn Accepted
+    vertex-ends I d =
+        let s = stepped (Same o) vertex k w (vertex-owed I) d in
+        let n = counts (stage vertex k) vertex-counts d in
+        record { went = s .went; is = s .is; values = s .values; after = ended o (turn (stage vertex k) k) (s .went .world) (s .after) (n .0) (n .1) }
+      where
+        counts : (q : Plan) → Accepted (λ vs t d. (length (edit (d .viewports) (k .viewports .used)) ≡ o .port2 + 1) × (length (edit (d .scales) (k .scales .used)) ≡ o .port3 + 1)) q → IsDone q
+            → (length (turn q k .viewports .used) ≡ o .port2 + 1) × (length (turn q k .scales .used) ≡ o .port3 + 1)
+        counts (refuse n vs) h i = absurd i
+        counts (does vs t d) h i = h
+
+  rest-vertex : Rest (vertex ∷ rest)
+  rest-vertex k w N h d = follows-more T (Ended o) vertex refl rest k w (vertex-ends k w N (h .0) (d .0)) (λ v E. onward (turn (stage vertex k) k) v E (h .1) (d .1))
 
   rest-lookat : (i : ℕ) (cs : List Command) → Rest cs → Rest (lookat i (p .lookat i .bytes) (p .lookat i .at) ∷ cs)
   unfolding execute
@@ -95,7 +158,7 @@ module _ (p : Prologue) (rest : List Command) where
 
   -- all from texture on
   abbrev lookats : List Command
-  lookats = lookat 0 (p .lookat 0 .bytes) (p .lookat 0 .at) ∷ lookat 1 (p .lookat 1 .bytes) (p .lookat 1 .at) ∷ vertex
+  lookats = lookat 0 (p .lookat 0 .bytes) (p .lookat 0 .at) ∷ lookat 1 (p .lookat 1 .bytes) (p .lookat 1 .at) ∷ vertex ∷ rest
 
   abbrev lightsFrom : List Command
   lightsFrom =
@@ -123,7 +186,7 @@ module _ (p : Prologue) (rest : List Command) where
   abbrev settings : List Command
   settings = texture (p .tile) (p .level) (p .on) (p .sc) (p .tc) ∷ lit
 
-  from-texture : (k : Book) (w : World) → Set k w → AllWithin settings → DoneFrom settings k → Follows (Same o) settings k w
+  from-texture : (k : Book) (w : World) → Set k w → AllWithin settings → DoneFrom settings k → Follows T settings k w
   unfolding execute
   from-texture k w N h d = then _ refl lit rest-lit k w (ready _ k w (texture-agrees N (p .tile) (p .level) (p .on) (p .sc) (p .tc) (h .0)) (d .0) refl) (h .1) (d .1)
 
@@ -135,37 +198,36 @@ module _ (p : Prologue) (rest : List Command) where
   abbrev seen : List Command
   seen = viewport (p .viewport .bytes) (p .viewport .at) ∷ geometry 0 (p .geometry) ∷ settings
 
-  from-viewport : (k : Book) (w : World) → Turned k w → AllWithin seen → DoneFrom seen k → Follows (Same o) seen k w
+  from-viewport : (k : Book) (w : World) → Turned k w → AllWithin seen → DoneFrom seen k → Follows T seen k w
   from-viewport k w N h d =
-      follows-more (Same o) (Near _≡_ Geometry0 (ViewSame (o .port2) (o .rust2)) Scale0 Rows0) (viewport (p .viewport .bytes) (p .viewport .at)) refl _ k w
+      follows-more T (Near _≡_ Geometry0 (View1 (p .viewport)) Scale0 Rows0) (viewport (p .viewport .bytes) (p .viewport .at)) refl _ k w
       (stepped _ _ k w (viewport-begins N (p .viewport) (h .0)) (d .0))
       (λ v M.
       let k₁ : Book = turn (stage (viewport (p .viewport .bytes) (p .viewport .at)) k) k in
       let g = geometry-begins (k₁ .state .geometry) (v .rsp .geom) (p .geometry) (M .modes .settings .geometry) in
-      follows-more (Same o) Set (geometry 0 (p .geometry)) refl _ k₁ v
+      follows-more T Set (geometry 0 (p .geometry)) refl _ k₁ v
       (stepped Set (geometry 0 (p .geometry)) k₁ v (geometry-agrees M _≡_ 0 (p .geometry) (g .0) (g .1)) (d .1 .0))
-      (λ u T. from-texture (turn (stage (geometry 0 (p .geometry)) k₁) k₁) u T (h .1 .1) (d .1 .1)))
+      (λ u S. from-texture (turn (stage (geometry 0 (p .geometry)) k₁) k₁) u S (h .1 .1) (d .1 .1)))
 
   -- FROM THE START, THROUGH THE PROLOGUE, FOR EVERY LIST OF COMMANDS AFTER IT
-  pub begins : (u : Microcode) (l : Areas) → AllWithin (prologue p ++ rest) → DoneFrom (prologue p ++ rest) (begun-book u l) → Follows (Same o) (prologue p ++ rest) (begun-book u l) (begun u)
+  pub begins : (u : Microcode) (l : Areas) → AllWithin (prologue p ++ rest) → DoneFrom (prologue p ++ rest) (begun-book u l) → Follows T (prologue p ++ rest) (begun-book u l) (begun u)
   begins u l h d =
-      follows-more (Same o) (Near Any Geometry0 View0 Scale0 Rows0) (pop 32) refl _ (begun-book u l) (begun u)
+      follows-more T (Near Any Geometry0 View0 Scale0 Rows0) (pop 32) refl _ (begun-book u l) (begun u)
       (stepped _ (pop 32) (begun-book u l) (begun u) (pop-agrees (start-near u l) (λ _ _ _. tt) 32) (d .0))
       (λ v M.
-      follows-more (Same o) Turned (matrix 2 (p .modelview .bytes) (p .modelview .at)) refl _ _ v
+      follows-more T Turned (matrix 2 (p .modelview .bytes) (p .modelview .at)) refl _ _ v
       (stepped Turned _ _ v (matrix-agrees M 2 (p .modelview .bytes) (p .modelview .at) (h .1 .0)) (d .1 .0))
-      (λ u T.
-      follows-more (Same o) Turned (matrix 6 (p .projection .bytes) (p .projection .at)) refl _ _ u
-      (stepped Turned _ _ u (matrix-agrees T 6 (p .projection .bytes) (p .projection .at) (h .1 .1 .0)) (d .1 .1 .0))
-      (λ t S. from-viewport _ t S (h .1 .1 .1) (d .1 .1 .1))))
+      (λ x L.
+      follows-more T Turned (matrix 6 (p .projection .bytes) (p .projection .at)) refl _ _ x
+      (stepped Turned _ _ x (matrix-agrees L 6 (p .projection .bytes) (p .projection .at) (h .1 .1 .0)) (d .1 .1 .0))
+      (λ y S. from-viewport _ y S (h .1 .1 .1) (d .1 .1 .1))))
 
 -- DEMAND 2
 pub equals-original : Demand2
-equals-original u l o p cs h d =
-    let s : Port = openedAs u l in
-    let b = begun-is u l o in
+equals-original u l h p cs i d =
+    let b = begun-is u l h in
     let k = on-books (prologue p ++ cs) (openedAs u l) (b .0) d in
-    let f = begins p cs u l h (subst (DoneFrom (prologue p ++ cs)) (b .1) (k .0)) in
+    let f = begins p cs (Same (before p)) (λ k w E. follows (before p) cs k w (E .0)) u l i (subst (DoneFrom (prologue p ++ cs)) (b .1) (k .0)) in
     let m = subst (λ (k : Book). Same (before p) k (f .walked .world)) (sym (run-book familyOf limit (prologue p ++ cs) (openedAs u l) (b .0) .1 ∙ ap (course stage (prologue p ++ cs)) (b .1))) (f .after) in
     record {
       walked = f .walked;
@@ -175,3 +237,15 @@ equals-original u l o p cs h d =
       corners = corners-same m;
       unmoved = inks-rest (prologue p ++ cs) (openedAs u l);
     }
+
+-- WHAT `before` COUNTS
+pub before-is : BeforeIs
+before-is u l h p i d r e =
+    let b = begun-is u l h in
+    let k = on-books (prologue p) (openedAs u l) (b .0) d in
+    let f = begins p [] (Ended (before p)) (λ k w E _ _. follows-none (Ended (before p)) k w E) u l i (subst (DoneFrom (prologue p)) (b .1) (k .0)) in
+    let m = subst (λ (k : Book). OneMore (before p) k (f .walked .world)) (sym (run-book familyOf limit (prologue p) (openedAs u l) (b .0) .1 ∙ ap (course stage (prologue p)) (b .1))) (f .after .1) in
+    subst (λ (y : Walked). OneMore (before p) (book (run stage (prologue p) (openedAs u l))) (y .world)) (same-walk (f .walked) r (sym (f .is) ∙ e)) m
+  where
+    same-walk : (x y : Walked) → _≡_ {A = Result Walked} (Ok x) (Ok y) → x ≡ y
+    same-walk x y q = cc

@@ -227,6 +227,11 @@ module _ (x : Bytes) (I : Data (x .bytes)) (n : x .at + 16 ≤ length (x .bytes)
       rust true h = ap (λ (y : List Float). y ∷ []) (sym (half-entry (x .bytes) (x .at) h))
       rust false h = refl
 
+  -- and with the viewport the stage has one more
+  port-count : (b : Bool) → port-kept ≡ b → length (cond b (zeros viewportWidth ∷ []) (zeros viewportWidth ∷ v ∷ [])) ≡ portViews x + 1
+  port-count true h = rw h
+  port-count false h = rw h
+
   -- the original compares with its first entry
   first-compared : last-is eq-entry (default .viewports .viewport-table) (vp3 (x .bytes) (x .at), vp3 (x .bytes) (x .at + 8)) ≡ rust-kept
   unfolding last-is
@@ -255,15 +260,19 @@ module _ (x : Bytes) (I : Data (x .bytes)) (n : x .at + 16 ≤ length (x .bytes)
           two-triples (suc zero) h = (refl, refl)
           two-triples (suc (suc i)) h = absurd (omega arith)
 
+-- the viewport is the same, and the stage's table 2 has one entry more than stand in front
+abbrev pub View1 : Bytes → List Float → List (List Float) → Viewports → Type 0
+View1 x v t y = ViewSame (portViews x) (rustViews x) v t y × (length t ≡ portViews x + 1)
+
 pub viewport-begins : {D : Bool → Bool → Type 0} {G : ℕ → ℕ → Type 0} {X : ℕ → List (List Float) → Texcoords → Type 0} {R : List Row → Columns → Type 0} {k : Book} {w : World} → Near D G View0 X R k w → (x : Bytes) → Data (x .bytes)
-    → Accepted (λ vs t e. Agrees (Near D G (ViewSame (portViews x) (rustViews x)) X R) vs (enter t e k) (execute (viewport (x .bytes) (x .at)) w)) (plan familyOf limit (viewport (x .bytes) (x .at)) k)
+    → Accepted (λ vs t e. Agrees (Near D G (View1 x) X R) vs (enter t e k) (execute (viewport (x .bytes) (x .at)) w)) (plan familyOf limit (viewport (x .bytes) (x .at)) k)
 unfolding plan execute
 viewport-begins {D} {G} {X} {R} {k} {w} N x I =
     on-viewport _ (k .state) (k .viewports) (x .bytes) (x .at)
     (λ n e.
-    let q : matches eq (zeros viewportWidth) (viewportEntry (x .bytes) (x .at)) ≡ true = rw (N .space .view .0) at e in (refl, space-near N keep keep (N .space .matrices) (N .space .defined) (rw (N .space .view .0, N .space .view .1) (begun-view x I n true q))))
+    let q : matches eq (zeros viewportWidth) (viewportEntry (x .bytes) (x .at)) ≡ true = rw (N .space .view .0) at e in (refl, space-near N keep keep (N .space .matrices) (N .space .defined) (rw (N .space .view .0, N .space .view .1) (begun-view x I n true q, port-count x I n true q))))
     (λ n e _.
-    let q : matches eq (zeros viewportWidth) (viewportEntry (x .bytes) (x .at)) ≡ false = rw (N .space .view .0) at e in (refl, space-near N keep (grow (viewportEntry (x .bytes) (x .at) ∷ [])) (N .space .matrices) (N .space .defined) (rw (N .space .view .0, N .space .view .1) (begun-view x I n false q))))
+    let q : matches eq (zeros viewportWidth) (viewportEntry (x .bytes) (x .at)) ≡ false = rw (N .space .view .0) at e in (refl, space-near N keep (grow (viewportEntry (x .bytes) (x .at) ∷ [])) (N .space .matrices) (N .space .defined) (rw (N .space .view .0, N .space .view .1) (begun-view x I n false q, port-count x I n false q))))
 
 -- ---- the geometry mode set whole
 
@@ -337,6 +346,11 @@ module _ (s : TextureState) (hs : s .sc < 65536) (ht : s .tc < 65536) where
   scale-number : (b : Bool) → scale-kept ≡ b → over (portScales (s .sc) (s .tc)) (rustScales (s .sc) (s .tc)) 0 ≡ cond b 0 1
   scale-number true h = omega (arith, none-front, scale-front true h)
   scale-number false h = omega (arith, none-front, scale-front false h)
+
+  -- the stage has that one
+  pub scale-count : length (edit (onlyIf (not (sameScale [] e)) (e ∷ [])) []) ≡ portScales (s .sc) (s .tc) + 1
+  unfolding sameScale pick
+  scale-count = refl
 
   pub scales-begun : Scaled (portScales (s .sc) (s .tc)) (rustScales (s .sc) (s .tc)) 0 (edit (onlyIf (not (sameScale [] e)) (e ∷ [])) []) (texcoords-then s (default .texcoords))
   unfolding texcoords-then last-is sameScale pick

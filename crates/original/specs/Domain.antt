@@ -1,5 +1,5 @@
 -- Document 01's domain, and what it is that the two sides agree on a command. Definitions only.
-use Prim.Native.Nat.{ℕ, _-_, _*_, _≤_, _<_}
+use Prim.Native.Nat.{ℕ, _+_, _-_, _*_, _≤_, _<_}
 use mathlib.Core.Path.{_≡_}
 use mathlib.Core.List.{List, [], _∷_, _++_, map}
 use mathlib.Core.Bool.{Bool, true, false, cond}
@@ -198,6 +198,13 @@ rustScales sc tc = inFront sameScale (fours (default .texcoords .texcoord-table)
 abbrev pub before : Prologue → Offsets
 before p = record { port2 = portViews (p .viewport); rust2 = rustViews (p .viewport); port3 = portScales (p .sc) (p .tc); rust3 = rustScales (p .sc) (p .tc) }
 
+-- each side has one entry more of tables 2 and 3
+pub record OneMore (o : Offsets) (k : Book) (w : World) : Type 0 where
+  pub port2 : length (k .viewports .used) ≡ o .port2 + 1
+  pub rust2 : length (w .rsp .viewports .viewport-table) ≡ o .rust2 + 1
+  pub port3 : length (k .scales .used) ≡ o .port3 + 1
+  pub rust3 : length (w .rsp .texcoords .texcoord-table) ≡ o .rust3 + 1
+
 -- ---- demand 2
 
 -- the original, sent them but for the ink counts, has done each and told what the stage told, and the two sides are the same from the offsets on;
@@ -224,6 +231,12 @@ abbrev pub Demand2 : Type 0
 Demand2 =
     (u : Microcode) (l : Areas) → Opens l → (p : Prologue) (cs : List Command)
     → AllWithin (prologue p ++ cs) → AllDone (prologue p ++ cs) (openedAs u l) → Equals (before p) (prologue p ++ cs) (openedAs u l) (begun u)
+
+-- what `before` counts: at the end of the prologue each side has one entry more
+abbrev pub BeforeIs : Type 0
+BeforeIs =
+    (u : Microcode) (l : Areas) → Opens l → (p : Prologue) → AllWithin (prologue p) → AllDone (prologue p) (openedAs u l)
+    → (r : Walked) → walk (prologue p) (begun u) ≡ Ok r → OneMore (before p) (book (run stage (prologue p) (openedAs u l))) (r .world)
 
 -- refused commands among the others, whatever they are: the original is sent those that are accepted, and the stage leaves what it leaves without the rest
 abbrev pub Demand2AmongRefusals : Type 0
