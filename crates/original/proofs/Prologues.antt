@@ -10,7 +10,8 @@ use Rattle.decide.specs.Family.{f3dex2, familyOf}
 use Rattle.stage.specs.declared.settings.Microcode.{Microcode}
 use Rattle.stage.specs.Sound.{limit}
 use Rattle.fold.specs.Scales.{scaleEntry, sameScale}
-use Rattle.stage.specs.Plan.{Plan, refuse, does, onlyIf}
+use Rattle.stage.specs.declared.State.{State}
+use Rattle.stage.specs.Plan.{Edits, Plan, refuse, does, onlyIf}
 use Rattle.stage.specs.Load.{settled, loadEdits}
 use Rattle.sequence.specs.Sequence.{Command, pop, matrix, viewport, geometry, texture, fog, number, light, lookat, load, Areas, Book, book, loadOf, plan, run}
 use Rattle.sequence.proofs.Turn.{edit, turn, course}
@@ -58,10 +59,9 @@ ended o k w S a b =
       },
     )
 
--- ---- the steps after the geometry mode, last to first. What comes after the prologue, T is to hold of, and does from its end on
+-- ---- the steps after the geometry mode, last to first, for any T that the commands after the prologue lead to from its end
 
 module _ (p : Prologue) (rest : List Command) (T : Book → World → Type 0) (onward : (k : Book) (w : World) → Ended (before p) k w → AllWithin rest → DoneFrom rest k → Follows T rest k w) where
-  -- the point that the prologue's arguments say
   abbrev o : Offsets
   o = before p
 
@@ -94,9 +94,6 @@ module _ (p : Prologue) (rest : List Command) (T : Book → World → Type 0) (o
   vertex = load (p .slot) 1 (p .vertex .bytes) (p .vertex .at)
 
   module _ (k : Book) (w : World) (N : Ready k w) where
-    abbrev x : TextureState
-    x = w .rsp .texture-state
-
     -- the entry that it makes, and table 3 with it
     abbrev e : List Float
     e = scaleEntry (w .rsp .texture-state .sc) (w .rsp .texture-state .tc)
@@ -110,6 +107,7 @@ module _ (p : Prologue) (rest : List Command) (T : Book → World → Type 0) (o
         subst (λ (y : TextureState). Scaled (portScales (y .sc) (y .tc)) (rustScales (y .sc) (y .tc)) (k .state .unit) scales (texcoords-then (w .rsp .texture-state) (w .rsp .texcoords))) (N .1)
         (rw (h .0, h .1, h .2) (scales-begun (w .rsp .texture-state) (N .0 .modes .settings .small .0) (N .0 .modes .settings .small .1)))
 
+    -- the count of table 2 left out
     viewed : Near _≡_ _≡_ (ViewSame (o .port2) (o .rust2)) Scale0 Rows0 k w
     viewed =
         let s = N .0 .space in
@@ -118,10 +116,14 @@ module _ (p : Prologue) (rest : List Command) (T : Book → World → Type 0) (o
     vertex-owed : Data (p .vertex .bytes) → Owed (Same o) vertex k w
     vertex-owed I = load-scaled viewed scaled (rows-begun o (k .rows .used) (w .scene .columns) (N .0 .held .rows)) (p .slot) 1 (p .vertex .bytes) (p .vertex .at) I
 
+    -- what is in use of tables 2 and 3 after the vertex
     scale-one : length scales ≡ o .port3 + 1
     scale-one = subst (λ (y : TextureState). length scales ≡ portScales (y .sc) (y .tc) + 1) (N .1) (rw (N .0 .held .scales .1) (scale-count (w .rsp .texture-state) (N .0 .modes .settings .small .0) (N .0 .modes .settings .small .1)))
 
-    vertex-counts : Accepted (λ vs t d. (length (edit (d .viewports) (k .viewports .used)) ≡ o .port2 + 1) × (length (edit (d .scales) (k .scales .used)) ≡ o .port3 + 1)) (stage vertex k)
+    abbrev Counts : List ℕ → State → Edits → Type 0
+    Counts vs t d = (length (edit (d .viewports) (k .viewports .used)) ≡ o .port2 + 1) × (length (edit (d .scales) (k .scales .used)) ≡ o .port3 + 1)
+
+    vertex-counts : Accepted Counts (stage vertex k)
     unfolding plan loadEdits settled
     vertex-counts = on-load _ f3dex2 256 (k .state) (loadOf k) (p .slot) 1 (p .vertex .bytes) (p .vertex .at) (λ _ _ _. (N .0 .space .view .1, rw (N .0 .modes .settings .texture) scale-one))
 
@@ -132,8 +134,7 @@ module _ (p : Prologue) (rest : List Command) (T : Book → World → Type 0) (o
         let n = counts (stage vertex k) vertex-counts d in
         record { went = s .went; is = s .is; values = s .values; after = ended o (turn (stage vertex k) k) (s .went .world) (s .after) (n .0) (n .1) }
       where
-        counts : (q : Plan) → Accepted (λ vs t d. (length (edit (d .viewports) (k .viewports .used)) ≡ o .port2 + 1) × (length (edit (d .scales) (k .scales .used)) ≡ o .port3 + 1)) q → IsDone q
-            → (length (turn q k .viewports .used) ≡ o .port2 + 1) × (length (turn q k .scales .used) ≡ o .port3 + 1)
+        counts : (q : Plan) → Accepted Counts q → IsDone q → (length (turn q k .viewports .used) ≡ o .port2 + 1) × (length (turn q k .scales .used) ≡ o .port3 + 1)
         counts (refuse n vs) h i = absurd i
         counts (does vs t d) h i = h
 

@@ -172,7 +172,7 @@ prologue p =
 
 -- ---- the point from which the entries of tables 2 and 3 are counted
 
--- how many entries stand in front of e in a table that holds es and gets e at its end, unless its last entry is the same
+-- how many entries a table of the entries es has in front of e, which it gets at its end unless its last entry is the same
 abbrev pub inFront : (List (List Float) → List Float → Bool) → List (List Float) → List Float → ℕ
 inFront same es e = cond (same es e) (length es - 1) (length es)
 
@@ -180,21 +180,23 @@ inFront same es e = cond (same es e) (length es - 1) (length es)
 abbrev pub sameView : List (List Float) → List Float → Bool
 sameView es e = matches eq (final es) e
 
--- table 2, in front of the prologue's viewport: the stage began with six zeros, the original with half a screen, as scale and as translation
+-- in table 2 of the stage, in front of the prologue's viewport: of opening's entry, six zeros
 abbrev pub portViews : Bytes → ℕ
 portViews v = inFront sameView (zeros viewportWidth ∷ []) (viewportEntry (v .bytes) (v .at))
 
+-- in table 2 of the original: of default's entry, half a screen as scale and as translation
 abbrev pub rustViews : Bytes → ℕ
 rustViews v = inFront sameView (map joined (default .viewports .viewport-table)) (viewportEntry (v .bytes) (v .at))
 
--- table 3, in front of the scales of the prologue's load: the stage began with none, the original with two pairs of zeros
+-- in table 3 of the stage, in front of the scales of the prologue's load: of none
 abbrev pub portScales : ℕ → ℕ → ℕ
 portScales sc tc = inFront sameScale [] (scaleEntry sc tc)
 
+-- in table 3 of the original: of default's entry, both pairs zero
 abbrev pub rustScales : ℕ → ℕ → ℕ
 rustScales sc tc = inFront sameScale (fours (default .texcoords .texcoord-table) (default .texcoords .texgen-scale-table)) (scaleEntry sc tc)
 
--- THE POINT: the entries that each side has in front of those of the prologue
+-- THE POINT: how many entries each side had before those that the prologue's viewport and load made, or found there
 abbrev pub before : Prologue → Offsets
 before p = record { port2 = portViews (p .viewport); rust2 = rustViews (p .viewport); port3 = portScales (p .sc) (p .tc); rust3 = rustScales (p .sc) (p .tc) }
 
@@ -207,8 +209,8 @@ pub record OneMore (o : Offsets) (k : Book) (w : World) : Type 0 where
 
 -- ---- demand 2
 
--- the original, sent them but for the ink counts, has done each and told what the stage told, and the two sides are the same from the offsets on;
--- the ink counts have changed nothing of the stage
+-- the original, sent them but for the ink counts, has done each, has told what the stage told, and has left the same from the offsets on;
+-- and without the ink counts the stage leaves the very state and areas that it leaves with them
 pub record Equals (o : Offsets) (cs : List Command) (p : Port) (w : World) : Type 0 where
   pub walked : Walked
   pub is : walk (sent cs) w ≡ Ok walked
@@ -221,7 +223,7 @@ pub record Equals (o : Offsets) (cs : List Command) (p : Port) (w : World) : Typ
 abbrev pub Opens : Areas → Type 0
 Opens l = (1 ≤ room matrixWidth (length (l .matrices))) × (1 ≤ room viewportWidth (length (l .viewports)))
 
--- the stage opened, which is as F3dex2; where the original is begun as F3dex2NoN, the stage is sent that change first
+-- the stage opened, which is as F3dex2; where the original is begun as F3dex2NoN, the stage is sent that microcode change first
 abbrev pub openedAs : Microcode → Areas → Port
 openedAs F3dex2 l = opening l
 openedAs F3dex2NoN l = step stage (microcode F3dex2NoN) (opening l)
