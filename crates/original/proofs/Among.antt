@@ -4,10 +4,10 @@ use mathlib.Core.List.{List, [], _∷_, _++_}
 use Rattle.decide.specs.Family.{familyOf}
 use Rattle.stage.specs.Sound.{limit}
 use Rattle.stage.specs.Plan.{Plan, refuse, does, pick}
-use Rattle.sequence.specs.Sequence.{Command, Port, book, step, run, isDone, accepted, opening}
+use Rattle.sequence.specs.Sequence.{Command, Port, book, step, run, isDone, accepted}
 use Rattle.sequence.proofs.Held.{run-append}
 use Rattle.sequence.proofs.Passed.{refused-rests, passed-over}
-use Rattle.original.specs.Domain.{IsDone, stage, AllDone, prologue, Demand2AmongRefusals}
+use Rattle.original.specs.Domain.{IsDone, stage, AllDone, prologue, openedAs, Demand2AmongRefusals}
 use Rattle.original.proofs.Prologues.{equals-original}
 
 -- two lists of accepted commands, one after the other
@@ -29,9 +29,10 @@ accepted-done (c ∷ cs) p = by (stage c (book p)) refl (accepted-done cs (step 
 
 -- DEMAND 2 AMONG REFUSALS
 pub among-refusals : Demand2AmongRefusals
-among-refusals l o p cs h d =
-    let q : Port = run stage (prologue p) (opening l) in
+among-refusals u l o p cs h d =
+    let s : Port = openedAs u l in
+    let q : Port = run stage (prologue p) s in
     let ds : List Command = accepted stage cs q in (
-      equals-original l o p ds h (done-append (prologue p) ds (opening l) d (accepted-done cs q)),
-      run-append familyOf limit (prologue p) ds (opening l) ∙ passed-over stage cs q ∙ sym (run-append familyOf limit (prologue p) cs (opening l)),
+      equals-original u l o p ds h (done-append (prologue p) ds s d (accepted-done cs q)),
+      run-append familyOf limit (prologue p) ds s ∙ passed-over stage cs q ∙ sym (run-append familyOf limit (prologue p) cs s),
     )

@@ -16,7 +16,6 @@ use Rattle.sequence.proofs.Spelled.{spells}
 use Rattle.finished.specs.Shown.{entriesOf, fogShown, noRow, shownBy, shown, rowWord}
 use Rattle.original.specs.Walk.{World}
 use Rattle.original.specs.Relation.{over, Offsets, Meets, joined, made-of, Since, Same, compared, seen, CornersSame}
-use Rattle.original.specs.Domain.{Met}
 use Rattle.original.proofs.RowsOf.{row-read}
 use Rattle.original.proofs.Views.{fours-at}
 
@@ -55,6 +54,3 @@ module _ {o : Offsets} {k : Book} {w : World} (S : Same o k w) where
 
   pub corners-same : CornersSame k w
   corners-same i h = corner-same (getD (k .rows .used) i noRow) (S .held .rows .each i h) ∙ ap (seen w) (sym (row-read (S .held .rows) i h))
-
-pub met-corners : {k : Book} {w : World} → Met k w → CornersSame k w
-met-corners m = corners-same (m .same)

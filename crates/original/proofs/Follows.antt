@@ -1,6 +1,7 @@
 -- Every command of the domain, and a list of them: the two sides agree. Assumes nothing.
 use mathlib.Core.Path.{_≡_, refl, sym, ap, ap₂, _∙_, subst}
 use Prim.Native.Nat.{ℕ}
+use mathlib.Core.Bool.{false, cond, false≢true}
 use mathlib.Core.List.{List, [], _∷_}
 use Rattle.decide.specs.Stack.{geometryAfter, relit}
 use Rattle.decide.specs.Family.{f3dex2, familyOf}
@@ -14,7 +15,8 @@ use Rattle.sequence.proofs.Accepts.{Accepted}
 use Rattle.original.specs.Drawing.{Result, Ok, Err}
 use Rattle.original.specs.Walk.{World, Went, execute}
 use Rattle.original.specs.Relation.{Offsets, Same}
-use Rattle.original.specs.Domain.{Within, Agrees, IsDone, stage, AllDone, told, AllWithin, Walked, walk}
+use Rattle.original.specs.Domain.{Within, Agrees, IsDone, stage, AllDone, isInk, sent, told, AllWithin, Walked, walk}
+use Rattle.original.proofs.Inks.{by-ink, ink-turns}
 use Rattle.original.proofs.Settings.{texture-agrees, fog-agrees, number-agrees, light-agrees, lookat-agrees, geometry-agrees, microcode-agrees}
 use Rattle.original.proofs.Combined.{matrix-agrees, force-agrees, pop-agrees}
 use Rattle.original.proofs.Views.{viewport-agrees}
@@ -27,26 +29,26 @@ use Rattle.original.proofs.Loads.{load-agrees}
 abbrev pub Owed : (Book → World → Type 0) → Command → Book → World → Type 0
 Owed T c k w = Accepted (λ vs t e. Agrees T vs (enter t e k) (execute c w)) (stage c k)
 
--- EVERY ACCEPTED COMMAND OF THE DOMAIN: the original is done too, tells the same, and leaves the same
-pub agrees : (o : Offsets) (k : Book) (w : World) → Same o k w → (c : Command) → Within c → Owed (Same o) c k w
-agrees o k w N (matrix flags bytes at) h = matrix-agrees N flags bytes at h
-agrees o k w N (force bytes at) h = force-agrees N bytes at h
-agrees o k w N (pop count) h = pop-agrees N (λ a b e. e) count
-agrees o k w N (viewport bytes at) h = viewport-agrees N bytes at h
-agrees o k w N (geometry off on) h =
+-- EVERY ACCEPTED COMMAND OF THE DOMAIN that the original is sent: it is done too, tells the same, and leaves the same
+pub agrees : (o : Offsets) (k : Book) (w : World) → Same o k w → (c : Command) → isInk c ≡ false → Within c → Owed (Same o) c k w
+agrees o k w N (matrix flags bytes at) q h = matrix-agrees N flags bytes at h
+agrees o k w N (force bytes at) q h = force-agrees N bytes at h
+agrees o k w N (pop count) q h = pop-agrees N (λ a b e. e) count
+agrees o k w N (viewport bytes at) q h = viewport-agrees N bytes at h
+agrees o k w N (geometry off on) q h =
     geometry-agrees N _≡_ off on (ap (geometryAfter off on) (N .modes .settings .geometry)) (ap (λ (g : ℕ). relit f3dex2 g (geometryAfter off on g)) (sym (N .modes .settings .geometry)))
-agrees o k w N (texture tile level on sc tc) h = texture-agrees N tile level on sc tc h
-agrees o k w N (fog multiplier offset) h = fog-agrees N multiplier offset
-agrees o k w N (number bytes) h = number-agrees N bytes
-agrees o k w N (light slot bytes at) h = light-agrees N slot bytes at h
-agrees o k w N (lookat slot bytes at) h = lookat-agrees N slot bytes at h
-agrees o k w N (microcode to) h = microcode-agrees N to
-agrees o k w N (load first count bytes at) h = load-agrees N first count bytes at h
-agrees o k w N (cull first last) h = cull-agrees N first last
-agrees o k w N (depth slot threshold) h = depth-agrees N slot threshold h
-agrees o k w N (modify slot attribute value) h = modify-agrees N slot attribute value h
-agrees o k w N (draw a b c material mode colour prim) h = draw-agrees N a b c material mode colour prim
-agrees o k w N (ink colour) h = absurd h
+agrees o k w N (texture tile level on sc tc) q h = texture-agrees N tile level on sc tc h
+agrees o k w N (fog multiplier offset) q h = fog-agrees N multiplier offset
+agrees o k w N (number bytes) q h = number-agrees N bytes
+agrees o k w N (light slot bytes at) q h = light-agrees N slot bytes at h
+agrees o k w N (lookat slot bytes at) q h = lookat-agrees N slot bytes at h
+agrees o k w N (microcode to) q h = microcode-agrees N to
+agrees o k w N (load first count bytes at) q h = load-agrees N first count bytes at h
+agrees o k w N (cull first last) q h = cull-agrees N first last
+agrees o k w N (depth slot threshold) q h = depth-agrees N slot threshold h
+agrees o k w N (modify slot attribute value) q h = modify-agrees N slot attribute value h
+agrees o k w N (draw a b c material mode colour prim) q h = draw-agrees N a b c material mode colour prim
+agrees o k w N (ink colour) q h = absurd (false≢true (sym q))
 
 -- ---- the premises, said of books
 
@@ -60,10 +62,10 @@ abbrev pub DoneFrom : List Command → Book → Type 0
 DoneFrom [] k = Unit {0}
 DoneFrom (c ∷ cs) k = IsDone (stage c k) × DoneFrom cs (turn (stage c k) k)
 
--- what each tells
+-- what each tells, but for the ink counts
 abbrev pub tellings : List Command → Book → List (List ℕ)
 tellings [] k = []
-tellings (c ∷ cs) k = tells (stage c k) ∷ tellings cs (turn (stage c k) k)
+tellings (c ∷ cs) k = cond (isInk c) (tellings cs (turn (stage c k) k)) (tells (stage c k) ∷ tellings cs (turn (stage c k) k))
 
 -- the answer's values are what the plan tells
 answer-tells : (c : Command) (p : Port) → result stage c p .values ≡ tells (stage c (book p))
@@ -80,7 +82,7 @@ on-books [] p h d = (tt, refl)
 on-books (c ∷ cs) p h d =
     let s = step-book familyOf limit c p h in
     let r = on-books cs (step stage c p) (s .0) (d .1) in
-    ((d .0, subst (DoneFrom cs) (s .2) (r .0)), ap₂ (λ (a : List ℕ) (b : List (List ℕ)). a ∷ b) (answer-tells c p) (r .1 ∙ ap (tellings cs) (s .2)))
+    ((d .0, subst (DoneFrom cs) (s .2) (r .0)), ap₂ (λ (a : List ℕ) (b : List (List ℕ)). cond (isInk c) b (a ∷ b)) (answer-tells c p) (r .1 ∙ ap (tellings cs) (s .2)))
 
 -- and the other way round
 pub on-port : (cs : List Command) (p : Port) → Fits p → DoneFrom cs (book p) → AllDone cs p
@@ -113,7 +115,7 @@ stepped T c k w o d = go (stage c k) refl o d (execute c w) refl
 
 pub record Follows (T : Book → World → Type 0) (cs : List Command) (k : Book) (w : World) : Type 0 where
   pub walked : Walked
-  pub is : walk cs w ≡ Ok walked
+  pub is : walk (sent cs) w ≡ Ok walked
   pub values : tellings cs k ≡ walked .values
   pub after : T (course stage cs k) (walked .world)
 
@@ -121,19 +123,27 @@ pub follows-none : (T : Book → World → Type 0) (k : Book) (w : World) → T 
 unfolding walk course
 follows-none T k w h = record { walked = record { values = []; world = w }; is = refl; values = refl; after = h }
 
-pub follows-more : (T S : Book → World → Type 0) (c : Command) (cs : List Command) (k : Book) (w : World) → Stepped S c k w → ((v : World) → S (turn (stage c k) k) v → Follows T cs (turn (stage c k) k) v) → Follows T (c ∷ cs) k w
+pub follows-more : (T S : Book → World → Type 0) (c : Command) → isInk c ≡ false → (cs : List Command) (k : Book) (w : World) → Stepped S c k w → ((v : World) → S (turn (stage c k) k) v → Follows T cs (turn (stage c k) k) v) → Follows T (c ∷ cs) k w
 unfolding walk course
-follows-more T S c cs k w s f =
+follows-more T S c q cs k w s f =
     let r = f (s .went .world) (s .after) in
     record {
       walked = record { values = s .went .values ∷ r .walked .values; world = r .walked .world };
-      is = rw (s .is, r .is);
-      values = ap₂ (λ (a : List ℕ) (b : List (List ℕ)). a ∷ b) (s .values) (r .values);
+      is = rw (q, s .is, r .is);
+      values = rw q (ap₂ (λ (a : List ℕ) (b : List (List ℕ)). a ∷ b) (s .values) (r .values));
       after = r .after;
     }
+
+-- an ink count, which is not sent
+pub follows-ink : (T : Book → World → Type 0) (colour : ℕ) (cs : List Command) (k : Book) (w : World) → Follows T cs (turn (stage (ink colour) k) k) w → Follows T (ink colour ∷ cs) k w
+unfolding course
+follows-ink T colour cs k w f = record { walked = f .walked; is = f .is; values = f .values; after = f .after }
 
 -- EVERY LIST OF ACCEPTED COMMANDS OF THE DOMAIN
 pub follows : (o : Offsets) (cs : List Command) (k : Book) (w : World) → Same o k w → AllWithin cs → DoneFrom cs k → Follows (Same o) cs k w
 follows o [] k w N h d = follows-none (Same o) k w N
 follows o (c ∷ cs) k w N h d =
-    follows-more (Same o) (Same o) c cs k w (stepped (Same o) c k w (agrees o k w N c (h .0)) (d .0)) (λ v M. follows o cs (turn (stage c k) k) v M (h .1) (d .1))
+    by-ink (λ c. Within c → IsDone (stage c k) → DoneFrom cs (turn (stage c k) k) → Follows (Same o) (c ∷ cs) k w)
+    (λ colour _ _ e. follows-ink (Same o) colour cs k w (follows o cs (turn (stage (ink colour) k) k) w (subst (λ (m : Book). Same o m w) (sym (ink-turns colour k)) N) (h .1) e))
+    (λ c q i a e. follows-more (Same o) (Same o) c q cs k w (stepped (Same o) c k w (agrees o k w N c q i) a) (λ v M. follows o cs (turn (stage c k) k) v M (h .1) e))
+    c (h .0) (d .0) (d .1)

@@ -26,26 +26,28 @@ use Rattle.fold.specs.Scales.{sameScale}
 use Rattle.fold.specs.Decision.{refold}
 use Rattle.vertex.specs.Vertices.{floatsOf, wordsOf, clipOf, slotAt, slotOf, verticesAt}
 use Rattle.change.specs.Decoded.{decoded, floatsAfter, wordsAfter, depthAfter, appends}
-use Rattle.stage.specs.Modify.{moved, asking, changed, changePlan, modifyPlan}
+use Rattle.stage.specs.Modify.{moved, asking, changed, changePlan, modifyPlan, inkPlan}
 use Rattle.triangle.specs.Run.{closed, sameRun}
 use Rattle.triangle.specs.Slot.{held}
+use Rattle.stage.specs.declared.settings.Microcode.{Microcode}
+use Rattle.stage.specs.declared.settings.Microcode.the-variants.{F3dex2, F3dex2NoN}
 use Rattle.stage.specs.Plan.{Plan, refuse, does, pick, unless, appended, appending}
 use Rattle.stage.specs.Sound.{stateSound, limit}
 use Rattle.numbers.specs.Choice.{all}
 use Rattle.stage.specs.Opening.{zeros, blank}
 use Rattle.stage.specs.Opening as start
 use Rattle.stage.specs.Matrices.{combine, turned, matrixPlan, popPlan, viewing, viewportPlan, geometryPlan}
-use Rattle.stage.specs.Lights.{texturePlan, fogPlan, lightIn, axisIn, numberPlan, ambientPlan, slotPlan, lightPlan, lookatPlan}
+use Rattle.stage.specs.Lights.{switched, microcodePlan, texturePlan, fogPlan, lightIn, axisIn, numberPlan, ambientPlan, slotPlan, lightPlan, lookatPlan}
 use Rattle.stage.specs.Load.{settled, settledState, sharedBy, loadEdits, loadPlan}
 use Rattle.stage.specs.Rows.{fillSlot, fillSlots}
 use Rattle.stage.specs.Draw.{runEdit, drawPlan}
 use Rattle.stage.proofs.Judged.{and-left, and-right}
-use Rattle.sequence.specs.Sequence.{Command, load, draw, modify, Areas, Book, isDone, opening, plan}
+use Rattle.sequence.specs.Sequence.{Command, load, draw, modify, ink, Areas, Book, isDone, plan}
 use Rattle.sequence.proofs.Turn.{turn, course}
 use Rattle.sequence.proofs.Held.{run-book}
-use Rattle.sequence.proofs.Opened.{opened-book, open-book}
-use Rattle.original.specs.Domain.{Data, AllWithin, IsDone, stage, Bytes, Prologue, prologue, Inhabited}
+use Rattle.original.specs.Domain.{Data, AllWithin, IsDone, stage, Bytes, Prologue, prologue, openedAs, Inhabited}
 use Rattle.original.proofs.Follows.{DoneFrom, on-port}
+use Rattle.original.proofs.Starts.{begun-book, begun-is}
 
 -- ---- accepted, and bytes, as tests that compute
 
@@ -113,12 +115,13 @@ example =
       vertex = record { bytes = vertex 1 1; at = 0 };
     }
 
--- a triangle, another colour for one of its corners, and it again
+-- a triangle, another colour for one of its corners, how often that is drawn, and the triangle again
 abbrev further : List Command
 further =
     load 0 3 (vertex 0 0 ++ vertex 0 1 ++ vertex 1 0) 0
     ∷ draw 0 1 2 1 2 3 4
     ∷ modify 1 0x10 0x11223344
+    ∷ ink 0x44332211
     ∷ draw 0 1 2 1 2 3 4
     ∷ []
 
@@ -140,12 +143,13 @@ lent =
 abbrev every : List Command
 every = prologue example ++ further
 
-abbrev end : Book
-end = course stage every (opened-book lent)
+abbrev end : Microcode → Book
+end u = course stage every (begun-book u lent)
 
-computed : (all-done every (opened-book lent) ≡ true) × (length (end .drawing .indices .used) ≡ 6)
-unfolding toBits ofInt round add mul div neg lt le eq ne ofRatio isRatio root.step root.root root.rootBy root.rooted root.sqrt rowTimes colTimes times rows laid bitsOf codeOf screenOf depthOf entryAt rowAt matrixAt vertexAt tripleAt viewportAt colourAt directionAt lightAt put write matches eqbℤ texgenMode slotted made pushed popped relit folded lightEntry directional lightEntries lookatEntry find sameScale refold floatsOf wordsOf clipOf slotAt slotOf verticesAt decoded floatsAfter wordsAfter depthAfter appends moved closed sameRun held pick unless appended appending all stateSound blank start.opened combine turned matrixPlan popPlan viewing viewportPlan geometryPlan texturePlan fogPlan lightIn axisIn numberPlan ambientPlan slotPlan lightPlan lookatPlan settled settledState sharedBy loadEdits loadPlan fillSlot fillSlots asking changed changePlan modifyPlan runEdit drawPlan plan turn course
-computed = (refl, refl)
+computed : (u : Microcode) → (all-done every (begun-book u lent) ≡ true) × (length (end u .drawing .indices .used) ≡ 6)
+unfolding toBits ofInt round add mul div neg lt le eq ne ofRatio isRatio root.step root.root root.rootBy root.rooted root.sqrt rowTimes colTimes times rows laid bitsOf codeOf screenOf depthOf entryAt rowAt matrixAt vertexAt tripleAt viewportAt colourAt directionAt lightAt put write matches eqbℤ texgenMode slotted made pushed popped relit folded lightEntry directional lightEntries lookatEntry find sameScale refold floatsOf wordsOf clipOf slotAt slotOf verticesAt decoded floatsAfter wordsAfter depthAfter appends moved closed sameRun held pick unless appended appending all stateSound blank start.opened combine turned matrixPlan popPlan viewing viewportPlan geometryPlan switched microcodePlan texturePlan fogPlan lightIn axisIn numberPlan ambientPlan slotPlan lightPlan lookatPlan settled settledState sharedBy loadEdits loadPlan fillSlot fillSlots asking changed changePlan modifyPlan inkPlan runEdit drawPlan plan turn course
+computed F3dex2 = (refl, refl)
+computed F3dex2NoN = (refl, refl)
 
 infixr 4 _and_
 _and_ : {A B : Type 0} → A → B → A × B
@@ -160,18 +164,18 @@ within =
     and bytes-of _ refl refl and bytes-of _ refl refl and bytes-of _ refl refl and bytes-of _ refl refl
     and bytes-of _ refl refl and bytes-of _ refl refl
     and bytes-of _ refl refl
-    and bytes-of _ refl refl and tt and omega arith and tt and tt
+    and bytes-of _ refl refl and tt and omega arith and tt and tt and tt
 
--- THE PREMISES ARE MET, and two triangles recorded
-pub not-empty : Inhabited 2
-not-empty =
-    let o = open-book lent (omega arith) (omega arith) in
+-- THE PREMISES ARE MET, begun with either microcode, and two triangles recorded
+pub not-empty : (u : Microcode) → Inhabited u 2
+not-empty u =
+    let o = begun-is u lent (omega arith, omega arith) in
     record {
       areas = lent;
       opens = (omega arith, omega arith);
       arguments = example;
       commands = further;
       within = within;
-      done = on-port every (opening lent) (o .0) (subst (DoneFrom every) (sym (o .1)) (all-done-is every (opened-book lent) (computed .0)));
-      triangles = ap (λ (k : Book). length (k .drawing .indices .used)) (run-book familyOf limit every (opening lent) (o .0) .1 ∙ ap (course stage every) (o .1)) ∙ computed .1;
+      done = on-port every (openedAs u lent) (o .0) (subst (DoneFrom every) (sym (o .1)) (all-done-is every (begun-book u lent) (computed u .0)));
+      triangles = ap (λ (k : Book). length (k .drawing .indices .used)) (run-book familyOf limit every (openedAs u lent) (o .0) .1 ∙ ap (course stage every) (o .1)) ∙ computed u .1;
     }

@@ -16,6 +16,7 @@ pub mod Modifies
 pub mod Settles
 pub mod Vertexes
 pub mod Loads
+pub mod Inks
 pub mod Follows
 pub mod Starts
 pub mod Prologues

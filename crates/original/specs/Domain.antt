@@ -1,26 +1,34 @@
 -- Document 01's domain, and what it is that the two sides agree on a command. Definitions only.
-use Prim.Native.Nat.{ℕ, _*_, _≤_, _<_}
+use Prim.Native.Nat.{ℕ, _+_, _-_, _*_, _≤_, _<_}
 use mathlib.Core.Path.{_≡_}
-use mathlib.Core.List.{List, [], _∷_, _++_}
-use mathlib.Core.Bool.{Bool}
+use mathlib.Core.List.{List, [], _∷_, _++_, map}
+use mathlib.Core.Bool.{Bool, true, false, cond}
 use lib.ListN.{length, getD}
 use lib.IntN.{ℤ}
-use Rattle.areas.specs.Area.{room}
+use lib.Ieee.{Float, eq}
+use Rattle.areas.specs.Area.{room, matches}
 use Rattle.areas.specs.Widths.{matrixWidth, viewportWidth}
+use Rattle.decide.specs.Append.{final}
 use Rattle.decide.specs.Family.{familyOf}
+use Rattle.fold.specs.Scales.{scaleEntry, sameScale}
+use Rattle.stage.specs.declared.settings.Microcode.{Microcode}
+use Rattle.stage.specs.declared.settings.Microcode.the-variants.{F3dex2, F3dex2NoN}
 use Rattle.stage.specs.Sound.{limit}
 use Rattle.stage.specs.Plan.{Plan, refuse, does}
+use Rattle.stage.specs.Opening.{zeros}
+use Rattle.stage.specs.Matrices.{viewportEntry}
 use Rattle.sequence.specs.Sequence.{Command, matrix, force, pop, viewport, geometry, texture, fog, number, light, lookat, microcode, load, cull, depth, modify, draw, ink, Areas, Port, Book, book, plan, result, step, run, accepted, opening}
+use Rattle.original.specs.Rsp.{default}
 use Rattle.original.specs.Drawing.{DiagKind, InvalidCullRange, InvalidConditionalVertex, InvalidVertexTransform, InvalidModifyVertex, Result, Ok, Err}
-use Rattle.original.specs.Walk.{World, Went, start, execute}
-use Rattle.original.specs.Relation.{Offsets, Same, CornersSame}
+use Rattle.original.specs.Walk.{World, Went, begun, execute}
+use Rattle.original.specs.Relation.{Offsets, joined, fours, Same, CornersSame}
 
 -- data is bytes, at most 16 MiB of them: beyond that the original's addresses begin again
 pub record Data (b : List ℕ) : Type 0 where
   pub bytes : (i : ℕ) → getD b i 0 < 256
   pub short : length b ≤ 16777216
 
--- a command of the original with arguments of its types; ink count is not one of its commands
+-- arguments of the original's types; an ink count is not sent to it
 abbrev pub Within : Command → Type 0
 Within (matrix flags bytes at) = Data bytes
 Within (force bytes at) = Data bytes
@@ -38,7 +46,7 @@ Within (cull first last) = Unit {0}
 Within (depth slot threshold) = threshold < 4294967296
 Within (modify slot attribute value) = value < 4294967296
 Within (draw a b c material mode colour prim) = Unit {0}
-Within (ink colour) = ⊥
+Within (ink colour) = Unit {0}
 
 -- the original is done, tells the same values, and what it leaves is in the relation S to the book k
 abbrev pub Agrees : (Book → World → Type 0) → List ℕ → Book → Result Went → Type 0
@@ -61,10 +69,35 @@ abbrev pub AllDone : List Command → Port → Type 0
 AllDone [] p = Unit {0}
 AllDone (c ∷ cs) p = IsDone (stage c (book p)) × AllDone cs (step stage c p)
 
--- the values of each answer
+-- an ink count, the one command that the original does not have
+abbrev pub isInk : Command → Bool
+isInk (matrix flags bytes at) = false
+isInk (force bytes at) = false
+isInk (pop count) = false
+isInk (viewport bytes at) = false
+isInk (geometry off on) = false
+isInk (texture tile level on sc tc) = false
+isInk (fog multiplier offset) = false
+isInk (number bytes) = false
+isInk (light slot bytes at) = false
+isInk (lookat slot bytes at) = false
+isInk (microcode to) = false
+isInk (load first count bytes at) = false
+isInk (cull first last) = false
+isInk (depth slot threshold) = false
+isInk (modify slot attribute value) = false
+isInk (draw a b c material mode colour prim) = false
+isInk (ink colour) = true
+
+-- the commands that the original is sent: all but the ink counts
+abbrev pub sent : List Command → List Command
+sent [] = []
+sent (c ∷ cs) = cond (isInk c) (sent cs) (c ∷ sent cs)
+
+-- the values of each answer that the stage, sent them all, gives to those
 abbrev pub told : List Command → Port → List (List ℕ)
 told [] p = []
-told (c ∷ cs) p = result stage c p .values ∷ told cs (step stage c p)
+told (c ∷ cs) p = cond (isInk c) (told cs (step stage c p)) (result stage c p .values ∷ told cs (step stage c p))
 
 -- each is within the domain
 abbrev pub AllWithin : List Command → Type 0
@@ -137,45 +170,93 @@ prologue p =
     ∷ load (p .slot) 1 (p .vertex .bytes) (p .vertex .at)
     ∷ []
 
+-- ---- the point from which the entries of tables 2 and 3 are counted
+
+-- how many entries a table of the entries es has in front of e, which it gets at its end unless its last entry is the same
+abbrev pub inFront : (List (List Float) → List Float → Bool) → List (List Float) → List Float → ℕ
+inFront same es e = cond (same es e) (length es - 1) (length es)
+
+-- the last entry equals e by float comparison
+abbrev pub sameView : List (List Float) → List Float → Bool
+sameView es e = matches eq (final es) e
+
+-- in table 2 of the stage, in front of the prologue's viewport: of opening's entry, six zeros
+abbrev pub portViews : Bytes → ℕ
+portViews v = inFront sameView (zeros viewportWidth ∷ []) (viewportEntry (v .bytes) (v .at))
+
+-- in table 2 of the original: of default's entry, half a screen as scale and as translation
+abbrev pub rustViews : Bytes → ℕ
+rustViews v = inFront sameView (map joined (default .viewports .viewport-table)) (viewportEntry (v .bytes) (v .at))
+
+-- in table 3 of the stage, in front of the scales of the prologue's load: of none
+abbrev pub portScales : ℕ → ℕ → ℕ
+portScales sc tc = inFront sameScale [] (scaleEntry sc tc)
+
+-- in table 3 of the original: of default's entry, both pairs zero
+abbrev pub rustScales : ℕ → ℕ → ℕ
+rustScales sc tc = inFront sameScale (fours (default .texcoords .texcoord-table) (default .texcoords .texgen-scale-table)) (scaleEntry sc tc)
+
+-- THE POINT: how many entries each side had before those that the prologue's viewport and load made, or found there
+abbrev pub before : Prologue → Offsets
+before p = record { port2 = portViews (p .viewport); rust2 = rustViews (p .viewport); port3 = portScales (p .sc) (p .tc); rust3 = rustScales (p .sc) (p .tc) }
+
+-- each side has one entry more of tables 2 and 3
+pub record OneMore (o : Offsets) (k : Book) (w : World) : Type 0 where
+  pub port2 : length (k .viewports .used) ≡ o .port2 + 1
+  pub rust2 : length (w .rsp .viewports .viewport-table) ≡ o .rust2 + 1
+  pub port3 : length (k .scales .used) ≡ o .port3 + 1
+  pub rust3 : length (w .rsp .texcoords .texcoord-table) ≡ o .rust3 + 1
+
 -- ---- demand 2
 
--- the two sides are the same, from some point of tables 2 and 3 on
-pub record Met (k : Book) (w : World) : Type 0 where
-  pub offsets : Offsets
-  pub same : Same offsets k w
-
--- the original has done the same commands, told the same, and left the same
-pub record Equals (cs : List Command) (p : Port) (w : World) : Type 0 where
+-- the original, sent them but for the ink counts, has done each, has told what the stage told, and has left the same from the offsets on;
+-- and without the ink counts the stage leaves the very state and areas that it leaves with them
+pub record Equals (o : Offsets) (cs : List Command) (p : Port) (w : World) : Type 0 where
   pub walked : Walked
-  pub is : walk cs w ≡ Ok walked
+  pub is : walk (sent cs) w ≡ Ok walked
   pub values : told cs p ≡ walked .values
-  pub after : Met (book (run stage cs p)) (walked .world)
+  pub after : Same o (book (run stage cs p)) (walked .world)
   pub corners : CornersSame (book (run stage cs p)) (walked .world)
+  pub unmoved : run stage (sent cs) p ≡ run stage cs p
 
 -- areas with room for an opening
 abbrev pub Opens : Areas → Type 0
 Opens l = (1 ≤ room matrixWidth (length (l .matrices))) × (1 ≤ room viewportWidth (length (l .viewports)))
 
--- DEMAND 2: opened on any areas, after the prologue with any arguments, for every list of commands of the domain that the stage accepts
+-- the stage opened, which is as F3dex2; where the original is begun as F3dex2NoN, the stage is sent that microcode change first
+abbrev pub openedAs : Microcode → Areas → Port
+openedAs F3dex2 l = opening l
+openedAs F3dex2NoN l = step stage (microcode F3dex2NoN) (opening l)
+
+-- DEMAND 2: begun with either microcode on any areas, after the prologue with any arguments, for every list of commands of the domain that the stage accepts
 abbrev pub Demand2 : Type 0
-Demand2 = (l : Areas) → Opens l → (p : Prologue) (cs : List Command) → AllWithin (prologue p ++ cs) → AllDone (prologue p ++ cs) (opening l) → Equals (prologue p ++ cs) (opening l) start
+Demand2 =
+    (u : Microcode) (l : Areas) → Opens l → (p : Prologue) (cs : List Command)
+    → AllWithin (prologue p ++ cs) → AllDone (prologue p ++ cs) (openedAs u l) → Equals (before p) (prologue p ++ cs) (openedAs u l) (begun u)
+
+-- what `before` counts: at the end of the prologue each side has one entry more
+abbrev pub BeforeIs : Type 0
+BeforeIs =
+    (u : Microcode) (l : Areas) → Opens l → (p : Prologue) → AllWithin (prologue p) → AllDone (prologue p) (openedAs u l)
+    → (r : Walked) → walk (prologue p) (begun u) ≡ Ok r → OneMore (before p) (book (run stage (prologue p) (openedAs u l))) (r .world)
 
 -- refused commands among the others, whatever they are: the original is sent those that are accepted, and the stage leaves what it leaves without the rest
 abbrev pub Demand2AmongRefusals : Type 0
 Demand2AmongRefusals =
-    (l : Areas) → Opens l → (p : Prologue) (cs : List Command)
-    → let ds = accepted stage cs (run stage (prologue p) (opening l)) in
-    AllWithin (prologue p ++ ds) → AllDone (prologue p) (opening l) → Equals (prologue p ++ ds) (opening l) start × (run stage (prologue p ++ ds) (opening l) ≡ run stage (prologue p ++ cs) (opening l))
+    (u : Microcode) (l : Areas) → Opens l → (p : Prologue) (cs : List Command)
+    → let o = openedAs u l in
+    let ds = accepted stage cs (run stage (prologue p) o) in
+    AllWithin (prologue p ++ ds) → AllDone (prologue p) o → Equals (before p) (prologue p ++ ds) o (begun u) × (run stage (prologue p ++ ds) o ≡ run stage (prologue p ++ cs) o)
 
 -- the premises can be met: areas, arguments of the prologue and further commands, all accepted, that record n triangles
-pub record Inhabited (n : ℕ) : Type 0 where
+pub record Inhabited (u : Microcode) (n : ℕ) : Type 0 where
   pub areas : Areas
   pub opens : Opens areas
   pub arguments : Prologue
   pub commands : List Command
   pub within : AllWithin (prologue arguments ++ commands)
-  pub done : AllDone (prologue arguments ++ commands) (opening areas)
-  pub triangles : length (book (run stage (prologue arguments ++ commands) (opening areas)) .drawing .indices .used) ≡ 3 * n
+  pub done : AllDone (prologue arguments ++ commands) (openedAs u areas)
+  pub triangles : length (book (run stage (prologue arguments ++ commands) (openedAs u areas)) .drawing .indices .used) ≡ 3 * n
 
 -- ---- refusals that are the original's too
 

@@ -17,7 +17,7 @@ use Rattle.original.specs.Math.{Mat4, f0, f1, mul32, add32, ix, mul-row-
 use Rattle.original.specs.Memory.{Mem, as-i16, RawVertex, read-vertex}
 use Rattle.original.specs.Rsp.{Slots, Matrices, TextureState, Texcoords, Lighting, Looking, Rsp, RSP-MAX-VERTICES, has, mv-top, last-is, key-is, g-lighting, g-texture-gen, g-texture-gen-linear, g-fog-geom, g-cull-front, g-cull-both}
 
--- ---- the scene, scene.rs lines 117 to 172: what has an element for each vertex, and the rest
+-- ---- the scene, scene.rs lines 120 to 175: what has an element for each vertex, and the rest
 
 pub record Columns : Type 0 where
   pub raw-pos : List (List Float)
@@ -34,7 +34,7 @@ pub record Columns : Type 0 where
   pub fog : List ℕ
   pub lookat-index : List ℕ
 
--- DrawRun, lines 21 to 34; the fog colour and the primitive depth by the one number that the caller gives
+-- DrawRun, scene.rs lines 22 to 32; the fog colour and the primitive depth by the one number that the caller gives
 pub record DrawRun : Type 0 where
   pub material-index : ℕ
   pub render-mode-index : ℕ
@@ -132,7 +132,7 @@ tg-scale n = as-f32 (div binary64 (ofInt binary64 (pos n)) (fin false 1 (pos 16)
 abbrev pub eq2 : List Float → List Float → Bool
 eq2 a b = eq (ix a 0) (ix b 0) && eq (ix a 1) (ix b 1)
 
--- lines 395 to 408: the texture scales
+-- lines 394 to 407: the texture scales
 unfoldable pub texcoords-then : TextureState → Texcoords → Texcoords
 texcoords-then x t =
     let tc-entry = tc-scale (x .sc) ∷ tc-scale (x .tc) ∷ [] in
@@ -145,19 +145,19 @@ texcoords-then x t =
       texgen-scale-table = cond same (t .texgen-scale-table) (t .texgen-scale-table ++ tg-entry ∷ []);
     }
 
--- lines 422 to 424, and the closure of lines 447 to 451: times 1.0 / length, or times 0.0
+-- lines 422 to 426, and the closure of lines 449 to 453: times 1.0 / length, or times 0.0
 unfoldable pub unit-length : List Float → List Float
 unit-length o =
     let len = sqrt binary32 (add32 (add32 (mul32 (ix o 0) (ix o 0)) (mul32 (ix o 1) (ix o 1))) (mul32 (ix o 2) (ix o 2))) in
     let inv = cond (lt f0 len) (div binary32 f1 len) f0 in
     mul32 (ix o 0) inv ∷ mul32 (ix o 1) inv ∷ mul32 (ix o 2) inv ∷ []
 
--- lines 419 to 428: the first n lights
+-- lines 419 to 427: the first n lights
 unfoldable pub fold-lights : Mat4 → List (List Float × List Float) → ℕ → List (List Float × List Float)
 fold-lights mv lights zero = []
 fold-lights mv lights (suc n) = fold-lights mv lights n ++ (unit-length (mul-col-vec3 mv (getD lights n ([], []) .0)), getD lights n ([], []) .1) ∷ []
 
--- lines 413 to 432: the lights, and the table after them
+-- lines 412 to 431: the lights, and the table after them
 abbrev pub lights-due : Bool → Matrices → Lighting → Bool
 lights-due lit m l = lit && not (key-is (l .last-light-key) (l .light-version) (mv-top m))
 
@@ -177,7 +177,7 @@ unfoldable pub light-entries : Bool → Matrices → Lighting → List (List Flo
 light-entries lit m l =
     cond (lights-due lit m l) (fold-lights (mv-top m) (l .lights) (l .num-dir) ++ (f0 ∷ f0 ∷ f0 ∷ [], l .ambient-col) ∷ []) []
 
--- lines 437 to 457: texgen mode and lookat
+-- lines 435 to 459: texgen mode and lookat
 unfoldable pub texgen-of : Bool → ℕ → ℕ
 texgen-of lit geom = cond (lit && has geom g-texture-gen) (cond (has geom g-texture-gen-linear) 2 1) 0
 
@@ -200,7 +200,7 @@ lookat-entries mode m l =
     ((unit-length (mul-col-vec3 (mv-top m) (getD (l .lookat-axes) 0 [])), unit-length (mul-col-vec3 (mv-top m) (getD (l .lookat-axes) 1 []))) ∷ [])
     []
 
--- lines 459 to 470: the place of the first equal pair, or of the one that is appended
+-- lines 460 to 470: the place of the first equal pair, or of the one that is appended
 unfoldable pub position : List (List ℤ) → ℤ → ℤ → ℕ
 position [] mul offset = 0
 position (e ∷ es) mul offset = cond (eqbℤ (getD e 0 (pos 0)) mul && eqbℤ (getD e 1 (pos 0)) offset) 0 (position es mul offset + 1)
@@ -208,7 +208,7 @@ position (e ∷ es) mul offset = cond (eqbℤ (getD e 0 (pos 0)) mul && eqbℤ (
 abbrev pub fog-entries : Bool → List (List ℤ) → ℤ → ℤ → List (List ℤ)
 fog-entries foggy table mul offset = cond (foggy && not (ltb (position table mul offset) (length table))) ((mul ∷ offset ∷ []) ∷ []) []
 
--- lines 478 to 488: the six tests in order, each shifted to its plane
+-- lines 479 to 487: the six tests in order, each shifted to its plane
 abbrev pub plane : Bool → ℕ → ℕ → ℕ
 plane outside k code = bitOr code (cond outside 1 0 * 2 ^ k)
 
@@ -222,14 +222,14 @@ clip-code c =
     (some (plane (lt w z) 5 (plane (lt z (neg w)) 4 (plane (lt w y) 3 (plane (lt y (neg w)) 2 (plane (lt w x) 1 (plane (lt x (neg w)) 0 0)))))))
     none
 
--- lines 489 to 497, in f64
+-- lines 488 to 496, in f64
 unfoldable pub screen-of : Option ℕ → List Float → List Float → List Float → Option Float
 screen-of none c scale trans = none
 screen-of (some code) c scale trans =
     let z = mul binary64 (add binary64 (mul binary64 (div binary64 (ix c 2) (ix c 3)) (ix scale 2)) (ix trans 2)) (fin false 1 (pos 10)) in
     cond (eq (ix c 3) f0) none (cond (finite z) (some z) none)
 
--- what the vertices of a load share, lines 389 to 470
+-- what the vertices of a load share, lines 394 to 470
 pub record Sharing : Type 0 where
   pub mvp : Mat4
   pub vp-scale : List Float
@@ -339,7 +339,7 @@ set-vertex mem addr count dst fog-mul fog-offset w =
       },
     )
 
--- ---- modify_vertex, lines 521 to 644
+-- ---- modify_unit_texcoord_index, lines 521 to 530, and modify_vertex, lines 574 to 644
 
 -- what a refused function answers with, of diag.rs
 pub data DiagKind : Type 0 where
@@ -355,7 +355,7 @@ pub data Result (A : Type 0) : Type 0 where
   Ok : A → Result A
   Err : DiagKind → Result A
 
--- element gi of every list: what a copy pushes, lines 597 to 610
+-- element gi of every list: what a copy pushes, lines 597 to 609
 unfoldable pub made-at : Columns → ℕ → Made
 made-at c gi =
     record {
@@ -374,7 +374,7 @@ made-at c gi =
       lookat = getD (c .lookat-index) gi 0;
     }
 
--- modify_unit_texcoord_index, lines 521 to 530: the index, and the tables then
+-- modify_unit_texcoord_index: the index, and the tables then
 unfoldable pub unit-index : Option ℕ → Texcoords → ℕ
 unit-index (some index) t = index
 unit-index none t = length (t .texcoord-table)
@@ -406,7 +406,7 @@ over4 z = div binary32 (ofInt binary32 z) (fin false 1 (pos 2))
 abbrev pub swap-bytes : ℕ → ℕ
 swap-bytes value = from-le (value / 16777216 ∷ value / 65536 % 256 ∷ value / 256 % 256 ∷ value % 256 ∷ [])
 
--- 0x10, lines 615 to 620
+-- 0x10, lines 616 to 621
 unfoldable pub modify-colour : ℕ → ℕ → Columns → Columns
 modify-colour gi value c =
     record {
@@ -425,7 +425,7 @@ modify-colour gi value c =
       lookat-index = c .lookat-index;
     }
 
--- 0x14, lines 621 to 629
+-- 0x14, lines 622 to 630
 unfoldable pub modify-texture : ℕ → ℕ → ℕ → Columns → Columns
 modify-texture gi value index c =
     record {
@@ -444,7 +444,7 @@ modify-texture gi value index c =
       lookat-index = set (c .lookat-index) gi 0;
     }
 
--- 0x18 and 0x1C, lines 630 to 639: other screen numbers, and a flag
+-- 0x18 and 0x1C, lines 631 to 640: other screen numbers, and a flag
 unfoldable pub modify-screen-at : ℕ → List Float → ℕ → Columns → Columns
 modify-screen-at gi screen flag c =
     record {
@@ -468,7 +468,7 @@ abbrev pub map-some : {A : Type 0} → A → Option A → Option A
 map-some x none = none
 map-some x (some y) = some x
 
--- lines 596 to 612: a slot that was used gets a copy of its row
+-- lines 595 to 613: a slot that was used gets a copy of its row
 unfoldable pub copied-slots : ℕ → ℕ → Slots → Slots
 copied-slots slot next s =
     record {
@@ -503,7 +503,7 @@ abbrev pub with-columns : Scene → Columns → Scene
 with-columns c x =
     record { columns = x; lights-table = c .lights-table; lookat-table = c .lookat-table; fog-table = c .fog-table; indices = c .indices; draw-runs = c .draw-runs }
 
--- lines 614 to 642: the change made at row gi
+-- lines 615 to 642: the change made at row gi
 unfoldable pub change-at : ℕ → ℕ → ℕ → ℕ → Rsp × Scene → Rsp × Scene
 change-at slot gi attr value w =
     let r = w .0 in
@@ -538,7 +538,7 @@ modify-vertex slot attr value w =
 
 -- ---- cull_display_list and branch_z, lines 532 to 571
 
--- ok_or, lines 552 to 553: the function goes on with what is there
+-- ok_or, lines 551 to 552 and line 569: the function goes on with what is there
 abbrev pub ok-or : {A : Type 0} → DiagKind → Option A → (A → Result Bool) → Result Bool
 ok-or k none go = Err k
 ok-or k (some x) go = go x

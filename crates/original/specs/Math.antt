@@ -48,14 +48,14 @@ out4 v m c = add32 (add32 (add32 (mul32 (ix v 0) (ix2 m 0 c)) (mul32 (ix v 1) (i
 unfoldable pub mul-row-vec4 : List Float → Mat4 → List Float
 mul-row-vec4 v m = out4 v m 0 ∷ out4 v m 1 ∷ out4 v m 2 ∷ out4 v m 3 ∷ []
 
--- mul_col_vec3, lines 34 to 40
+-- mul_col_vec3, lines 33 to 39
 abbrev pub out3 : Mat4 → List Float → ℕ → Float
 out3 m v i = add32 (add32 (mul32 (ix2 m i 0) (ix v 0)) (mul32 (ix2 m i 1) (ix v 1))) (mul32 (ix2 m i 2) (ix v 2))
 
 unfoldable pub mul-col-vec3 : Mat4 → List Float → List Float
 mul-col-vec3 m v = out3 m v 0 ∷ out3 m v 1 ∷ out3 m v 2 ∷ []
 
--- mul4, lines 43 to 51: turn i of the outer loop is row i
+-- mul4, lines 42 to 51: turn i of the outer loop is row i
 abbrev pub out44 : Mat4 → Mat4 → ℕ → ℕ → Float
 out44 a b i j = add32 (add32 (add32 (mul32 (ix2 a i 0) (ix2 b 0 j)) (mul32 (ix2 a i 1) (ix2 b 1 j))) (mul32 (ix2 a i 2) (ix2 b 2 j))) (mul32 (ix2 a i 3) (ix2 b 3 j))
 

@@ -45,7 +45,7 @@ cells mem address k = cell mem address k ∷ cell mem address (k + 1) ∷ cell m
 unfoldable pub read-matrix : Mem → ℕ → Mat4
 read-matrix mem address = cells mem address 0 ∷ cells mem address 4 ∷ cells mem address 8 ∷ cells mem address 12 ∷ []
 
--- RawVertex, lines 250 to 257, and read_fixed_vertex, lines 224 to 248
+-- RawVertex, lines 252 to 256, and read_fixed_vertex, lines 224 to 248
 pub record RawVertex : Type 0 where
   pub pos : List Float
   pub st : List ℤ

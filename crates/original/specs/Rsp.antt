@@ -124,7 +124,7 @@ g-cull-both = 0x600
 abbrev pub half-screen : List Float
 half-screen = fin false 5 (pos 5) ∷ fin false 15 (pos 3) ∷ div binary32 (ofInt binary32 (pos 511)) (fin false 1 (pos 10)) ∷ []
 
--- default, lines 87 to 140
+-- default, lines 88 to 140; new, lines 144 to 154, is that too, for F3DEX2's constants and fixed data
 abbrev pub default : Rsp
 default =
     record {
@@ -186,8 +186,24 @@ key-is (some k) version mv = eqb (k .0) version && eq-mat (k .1) mv
 abbrev pub has : ℕ → ℕ → Bool
 has a mask = not (eqb (bitAnd a mask) 0)
 
--- ---- microcode, lines 160 to 184
+-- ---- microcode, lines 156 to 173
 
+-- set_initial_microcode
+abbrev pub set-initial-microcode : Microcode → Rsp → Rsp
+set-initial-microcode ucode r =
+    record {
+      microcode = ucode;
+      geom = r .geom;
+      texture-state = r .texture-state;
+      slots = r .slots;
+      matrices = r .matrices;
+      viewports = r .viewports;
+      texcoords = r .texcoords;
+      lighting = r .lighting;
+      looking = r .looking;
+    }
+
+-- switch_microcode
 unfoldable pub switch-microcode : Microcode → Rsp → Rsp
 switch-microcode ucode r =
     let m = r .matrices in
@@ -309,7 +325,7 @@ pop-matrix count m =
     let size = popped-size count (m .model-stack-size) in
     cond (eqb size (m .model-stack-size)) m (recompute-mvp (with-stack m (m .model-stack) size))
 
--- prepare_vertex: an undefined matrix is recomputed and stays so
+-- prepare_vertex, lines 175 to 184: an undefined matrix is recomputed and stays so
 unfoldable pub prepare-vertex : Matrices → Matrices
 prepare-vertex m =
     cond (m .mvp-valid) m

@@ -4,7 +4,9 @@ use mathlib.Core.Bool.{Bool, cond}
 use mathlib.Core.List.{List, [], _∷_}
 use lib.IntN.{ℤ, pos}
 use Rattle.sequence.specs.Sequence.{Command, matrix, force, pop, viewport, geometry, texture, fog, number, light, lookat, microcode, load, cull, depth, modify, draw, ink}
-use Rattle.original.specs.Rsp.{Rsp, Matrices, Viewports, TextureState, Lighting, Looking, default, switch-microcode, matrix-fn, force-matrix, pop-matrix, prepare-vertex, modify-geometry, geometry-version, set-viewport, set-num-lights, set-light, set-lookat}
+use Rattle.stage.specs.declared.settings.Microcode.{Microcode}
+use Rattle.stage.specs.declared.settings.Microcode.the-variants.{F3dex2}
+use Rattle.original.specs.Rsp.{Rsp, Matrices, Viewports, TextureState, Lighting, Looking, default, set-initial-microcode, switch-microcode, matrix-fn, force-matrix, pop-matrix, prepare-vertex, modify-geometry, geometry-version, set-viewport, set-num-lights, set-light, set-lookat}
 use Rattle.original.specs.Drawing.{Scene, empty, Result, Ok, Err, set-vertex, modify-vertex, cull-display-list, branch-z, draw-tri}
 
 -- what the walk holds: the Rsp, the two numbers of the Rdp that set_vertex reads, and the scene
@@ -14,9 +16,13 @@ pub record World : Type 0 where
   pub fog-offset : ℤ
   pub scene : Scene
 
--- before the first command
+-- before the first command, for the microcode that the caller begins with: interp.rs lines 546 and 547
+abbrev pub begun : Microcode → World
+begun ucode = record { rsp = set-initial-microcode ucode default; fog-mul = pos 0; fog-offset = pos 0; scene = empty }
+
+-- a caller who begins with F3dex2
 unfoldable pub start : World
-start = record { rsp = default; fog-mul = pos 0; fog-offset = pos 0; scene = empty }
+start = begun F3dex2
 
 -- an Rsp with one of its groups replaced
 abbrev pub with-matrices : Rsp → Matrices → Rsp
@@ -96,7 +102,7 @@ abbrev pub changed : World → Result (Rsp × Scene) → Result Went
 changed w (Err k) = Err k
 changed w (Ok x) = done (with-both w x)
 
--- each command by the function that rsp_f3dex2.rs calls for it; a load by prepare_vertex and then set_vertex. Ink count is not the original's
+-- each command by the function that rsp_f3dex2.rs calls for it; a load by prepare_vertex and then set_vertex. Ink count is not the original's: it is never sent
 unfoldable pub execute : Command → World → Result Went
 execute (matrix flags bytes at) w = done (with-rsp w (with-matrices (w .rsp) (matrix-fn bytes at flags (w .rsp .matrices))))
 execute (force bytes at) w = done (with-rsp w (with-matrices (w .rsp) (force-matrix bytes at (w .rsp .matrices))))
