@@ -123,8 +123,8 @@ fn depth_test(s: State, slot: u32, threshold: u32) -> State {
 }
 
 // The caller's four numbers are a material, 7, and nothing else.
-fn draw(s: State, a: u32, b: u32, c: u32, indices: &mut [u32; 30], runs: &mut [u32; 16]) -> State {
-    let r = s.draw_tri(a, b, c, 7, 0, 0, 0, indices, runs);
+fn draw(s: State, i: u32, j: u32, k: u32, indices: &mut [u32; 30], runs: &mut [u32; 16]) -> State {
+    let r = s.draw_tri(i, j, k, 7, 0, 0, 0, indices, runs);
     let a = r.answer;
     said(b"draw", a);
     r.state
