@@ -111,7 +111,7 @@ pub(crate) fn signed(x: i16) {
     }
 }
 
-// Document 01's number of an answer.
+// The number of an answer (docs/REFERENCE.md 3).
 fn number_of(a: Answer) -> u32
     ensures { λ r. ⌜ r ≡ number a ⌝ }
 {

@@ -1,10 +1,185 @@
-// A first program over the stage: three vertices and one triangle, and what was recorded of it.
+// A first program over the stage: `main` is a list of commands, each a small function over what is lent, which says the
+// answer and hands the state back. A refusal hands it back as it was.
 use libc::STDOUT_FILENO;
+use stage::Answer;
+use stage::State;
 
-fn say(what: &[u8], n: u32) {
+// Matrix flags, bits of the geometry mode, and an attribute of modify.
+const LOAD: u8 = 2;
+
+const KEEP_ALL: u32 = 0xffff_ffff;
+
+const CULL_BACK: u32 = 0x400;
+
+const COLOUR: u32 = 0x10;
+
+fn line(what: &[u8]) {
+    io::write_all(STDOUT_FILENO, what);
+    io::write_all(STDOUT_FILENO, b"\n");
+}
+
+fn one(what: &[u8], n: u32) {
     io::write_all(STDOUT_FILENO, what);
     io::print_decimal(STDOUT_FILENO, n as u64);
     io::write_all(STDOUT_FILENO, b"\n");
+}
+
+fn two(what: &[u8], n: u32, m: u32) {
+    io::write_all(STDOUT_FILENO, what);
+    io::print_decimal(STDOUT_FILENO, n as u64);
+    one(b" ", m);
+}
+
+// What a command answered: done, a number that it tells, or a refusal by its number and its values.
+fn said(command: &[u8], a: Answer) {
+    io::write_all(STDOUT_FILENO, command);
+    match a {
+        Answer::Done => line(b": done"),
+        Answer::Told(n) => one(b": told ", n),
+        Answer::BadLoad(count, first) => two(b": refusal 1, ", count, first),
+        Answer::BadCull(first, last) => two(b": refusal 2, ", first, last),
+        Answer::NotLoaded(slot) => one(b": refusal 3, ", slot),
+        Answer::NoCode(slot) => one(b": refusal 4, ", slot),
+        Answer::BadModify(slot, attribute) => two(b": refusal 5, ", slot, attribute),
+        Answer::NeverLoaded(slot) => one(b": refusal 6, ", slot),
+        Answer::ShortData(length) => one(b": refusal 7, ", length),
+        Answer::ShortArea(table) => one(b": refusal 8, ", table),
+        Answer::NoRoom(table) => one(b": refusal 9, ", table),
+        Answer::BadState => line(b": refusal 10"),
+    }
+}
+
+fn opening(matrices: &mut [f32; 64], viewports: &mut [f32; 12]) -> State {
+    let r = State::opening(matrices, viewports);
+    let a = r.answer;
+    said(b"opening", a);
+    r.state
+}
+
+fn matrix(s: State, flags: u8, data: &[u8; 64], matrices: &mut [f32; 64]) -> State {
+    let r = s.matrix(flags, data, 0, matrices);
+    let a = r.answer;
+    said(b"matrix", a);
+    r.state
+}
+
+fn viewport(s: State, data: &[u8; 16], viewports: &mut [f32; 12]) -> State {
+    let r = s.set_viewport(data, 0, viewports);
+    let a = r.answer;
+    said(b"viewport", a);
+    r.state
+}
+
+fn geometry(s: State, off: u32, on: u32) -> State {
+    let r = s.modify_geometry_mode(off, on);
+    let a = r.answer;
+    said(b"geometry mode", a);
+    r.state
+}
+
+fn load(
+    s: State,
+    first: u32,
+    count: u32,
+    data: &[u8; 48],
+    matrices: &mut [f32; 64],
+    scales: &mut [f32; 16],
+    lights: &mut [f32; 48],
+    lookats: &mut [f32; 12],
+    fogs: &mut [i16; 4],
+    floats: &mut [f32; 90],
+    words: &mut [u32; 100],
+) -> State {
+    let r = s.load(
+        first,
+        count,
+        data,
+        0,
+        matrices,
+        scales,
+        lights,
+        lookats,
+        fogs,
+        floats,
+        words,
+    );
+    let a = r.answer;
+    said(b"load", a);
+    r.state
+}
+
+fn cull_test(s: State, first: u32, last: u32) -> State {
+    let r = s.cull_display_list(first, last);
+    let a = r.answer;
+    said(b"cull test", a);
+    r.state
+}
+
+fn depth_test(s: State, slot: u32, threshold: u32) -> State {
+    let r = s.branch_z(slot, threshold);
+    let a = r.answer;
+    said(b"depth test", a);
+    r.state
+}
+
+// The caller's four numbers are a material, 7, and nothing else.
+fn draw(s: State, i: u32, j: u32, k: u32, indices: &mut [u32; 30], runs: &mut [u32; 16]) -> State {
+    let r = s.draw_tri(i, j, k, 7, 0, 0, 0, indices, runs);
+    let a = r.answer;
+    said(b"draw", a);
+    r.state
+}
+
+fn modify(
+    s: State,
+    slot: u32,
+    attribute: u32,
+    value: u32,
+    scales: &mut [f32; 16],
+    floats: &mut [f32; 90],
+    words: &mut [u32; 100],
+) -> State {
+    let r = s.modify_vertex(slot, attribute, value, scales, floats, words);
+    let a = r.answer;
+    said(b"modify", a);
+    r.state
+}
+
+fn ink_count(
+    s: State,
+    colour: u32,
+    floats: &[f32; 90],
+    words: &[u32; 100],
+    indices: &[u32; 30],
+) -> State {
+    let r = s.ink_count(colour, floats, words, indices);
+    let a = r.answer;
+    said(b"ink count", a);
+    r.state
+}
+
+// The identity: 1 on the diagonal of the whole parts, which are 16 bits each.
+fn identity() -> [u8; 64] {
+    let mut m = [0u8; 64];
+    m[1] = 1;
+    m[11] = 1;
+    m[21] = 1;
+    m[31] = 1;
+    m
+}
+
+// A viewport of 320 by 240: scale and translation 640/4, 480/4 and 511/1024.
+fn screen() -> [u8; 16] {
+    [2, 128, 1, 224, 1, 255, 0, 0, 2, 128, 1, 224, 1, 255, 0, 0]
+}
+
+// Three vertices of 16 bytes: (0, 0, 1), (1, 0, 0) and (0, 1, 0), all black.
+fn corners() -> [u8; 48] {
+    let mut v = [0u8; 48];
+    v[5] = 1;
+    v[17] = 1;
+    v[35] = 1;
+    v
 }
 
 fn main() {
@@ -19,14 +194,15 @@ fn main() {
     let mut words = [0u32; 100];
     let mut indices = [0u32; 30];
     let mut runs = [0u32; 16];
-    // Three vertices of 16 bytes.
-    let data = [0u8; 48];
-    let opened = stage::State::opening(&mut matrices, &mut viewports);
-    let loaded = opened.state.load(
+    let mut s = opening(&mut matrices, &mut viewports);
+    s = matrix(s, LOAD, &identity(), &mut matrices);
+    s = viewport(s, &screen(), &mut viewports);
+    s = geometry(s, KEEP_ALL, CULL_BACK);
+    s = load(
+        s,
         0,
         3,
-        &data,
-        0,
+        &corners(),
         &mut matrices,
         &mut scales,
         &mut lights,
@@ -35,10 +211,27 @@ fn main() {
         &mut floats,
         &mut words,
     );
-    let drawn = loaded
-        .state
-        .draw_tri(0, 1, 2, 7, 0, 0, 0, &mut indices, &mut runs);
-    say(b"indices in use: ", drawn.state.counts.indices);
-    say(b"runs in use: ", drawn.state.counts.runs);
-    say(b"material of the first run: ", runs[0]);
+    s = cull_test(s, 0, 2);
+    s = depth_test(s, 0, 1022 * 65536);
+    s = draw(s, 0, 1, 2, &mut indices, &mut runs);
+    // Slot 1 was drawn, so its row is copied, and the triangle keeps the old one.
+    s = modify(
+        s,
+        1,
+        COLOUR,
+        0xff8000ff,
+        &mut scales,
+        &mut floats,
+        &mut words,
+    );
+    s = draw(s, 0, 1, 2, &mut indices, &mut runs);
+    // The row has the bytes of modify's value the other way round.
+    s = ink_count(s, 0xff0080ff, &floats, &words, &indices);
+    // Refused: slot 9 was never loaded, and modify has no attribute 17.
+    s = draw(s, 0, 1, 9, &mut indices, &mut runs);
+    s = modify(s, 1, 17, 0, &mut scales, &mut floats, &mut words);
+    one(b"rows in use: ", s.counts.rows);
+    one(b"indices in use: ", s.counts.indices);
+    one(b"runs in use: ", s.counts.runs);
+    one(b"material of the first run: ", runs[0]);
 }

@@ -2,7 +2,8 @@
 ghost use mathlib.Core.Path.{_≡_};
 ghost use Rattle.fold.specs.Decision.{refold};
 
-// `folded`: some are folded already; `changed`: they are marked changed; `top`: the model top; `model`: the one last folded.
+// `folded`: some were folded since opening; `changed`: they are marked changed since; `top`: the model top that they were last
+// folded with; `model`: the model top of this load.
 pub fn folds(folded: bool, changed: bool, top: [f32; 16], model: [f32; 16]) -> bool
     ensures { λ r. ⌜ r ≡ refold folded changed top model ⌝ }
 {

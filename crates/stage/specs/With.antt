@@ -1,5 +1,5 @@
 -- A state with one of its parts replaced. A state is four groups of fields, and a setter of one field makes its group anew; setters of several are made
--- of those. A new field of the state touches its group, and this file alone.
+-- of those. A new field touches its group with the group's setters here, and what writes a whole group out: `blank`, `unloaded` and `fillSlot`.
 use Prim.Native.Nat.{ℕ}
 use mathlib.Core.Bool.{Bool, true, false}
 use mathlib.Core.List.{List}

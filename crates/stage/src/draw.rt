@@ -95,7 +95,7 @@ impl State {
         Answer::Told(slot::word_of(common != 0))
     }
 
-    // Cull test: 1 where the slots first to last all lie outside one of the four side planes, else 0.
+    // Cull test (13): 1 where the slots first to last all lie outside one of the four side planes, else 0.
     pub fn cull_display_list(mut self, first: u32, last: u32) -> Answered
         ensures { λ r. ⌜ outcome r tt ≡ carry nothing (cullPlan (limit self) self first last) self tt ⌝ }
     {
@@ -127,7 +127,7 @@ impl State {
         Answer::Told(slot::word_of(z[i] <= most))
     }
 
-    // Depth test: 1 where the slot's screen z is at most the threshold over 65536, else 0.
+    // Depth test (13): 1 where the slot's screen z is at most the threshold over 65536, else 0.
     pub fn branch_z(mut self, slot: u32, threshold: u32) -> Answered
         ensures { λ r. ⌜ outcome r tt ≡ carry nothing (depthPlan (limit self) self slot threshold) self tt ⌝ }
     {
@@ -138,7 +138,8 @@ impl State {
         }
     }
 
-    // Draw: a triangle of three slots, with the caller's material, render mode, fog colour and primitive depth.
+    // Draw (14): a triangle of three slots, with the caller's material, render mode, fog colour and primitive depth. Where both sides are
+    // culled it is done, and nothing is recorded.
     pub fn draw_tri(
         mut self,
         a: u32,

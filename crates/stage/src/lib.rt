@@ -1,4 +1,5 @@
-// The geometry stage: its state, its answers and its commands, a file for each module of the port.
+// The geometry stage: its state, its answers and its commands, a file for each group of commands. docs/REFERENCE.md has the rules in
+// words; a number in brackets behind a command's name is the section.
 pub mod draw;
 pub mod load;
 pub mod matrices;
@@ -18,7 +19,7 @@ pub struct Counts {
     pub runs: u32,
 }
 
-// What the texture command stores.
+// What the texture command stores, as it was given.
 pub struct Texture {
     pub tile: u8,
     pub level: u8,
@@ -84,7 +85,7 @@ pub struct State {
     pub unit: u32,
 }
 
-// What a command answers. `Done` and `Told` are number 0; the refusals stand in the order of their numbers, 1 to 10.
+// What a command answers (3). `Done` and `Told` are number 0; the refusals stand in the order of their numbers, 1 to 10.
 pub enum Answer {
     Done,
     // The notice of a load, 1 for yes and 0 for no, or a count.

@@ -468,7 +468,7 @@ impl State {
         }
     }
 
-    // Load: `count` vertices of 16 bytes into the slots from `first` on. Nothing is written before all is judged.
+    // Load (11): `count` vertices of 16 bytes into the slots from `first` on. Nothing is written before all is judged.
     pub fn load(
         mut self,
         first: u32,

@@ -173,7 +173,7 @@ impl State {
             & sound_counts(self.counts)
     }
 
-    // The first state of a run: one identity matrix, a viewport of zeros, nothing else in use.
+    // Opening (4), the first state of a sequence: one identity matrix, a viewport of zeros, nothing else in use.
     pub fn opening(matrices: &mut [f32], viewports: &mut [f32]) -> Answered
         ensures { λ r. ⌜ outcome r (now (matrices .exit), now (viewports .exit)) ≡ carry areas12 (openingPlan (now (matrices .entry)) (now (viewports .entry))) (blank false) (now (matrices .entry), now (viewports .entry)) ⌝ }
     {
@@ -215,7 +215,7 @@ impl State {
         Answer::Done
     }
 
-    // Matrix: flags push 1, load 2, projection 4, after the exclusive-or with 1 of the command word.
+    // Matrix (6): flags push 1, load 2, projection 4, after the exclusive-or with 1 of the command word; 64 bytes.
     pub fn matrix(mut self, flags: u8, data: &[u8], at: usize, matrices: &mut [f32]) -> Answered
         ensures { λ r. ⌜ outcome r (now (matrices .exit)) ≡ carry area1 (matrixPlan (familyOf (self .microcode)) self (tableIn matrixArea (self .counts) (now (matrices .entry))) flags (now («data» .entry)) at) self (now (matrices .entry)) ⌝ }
     {
@@ -252,7 +252,7 @@ impl State {
         }
     }
 
-    // Forced matrix: 64 bytes become the combined matrix; the stack and the projection stay.
+    // Forced matrix (6): 64 bytes become the combined matrix; the stack and the projection stay.
     pub fn force_matrix(mut self, data: &[u8], at: usize, matrices: &mut [f32]) -> Answered
         ensures { λ r. ⌜ outcome r (now (matrices .exit)) ≡ carry area1 (forcePlan self (tableIn matrixArea (self .counts) (now (matrices .entry))) (now («data» .entry)) at) self (now (matrices .entry)) ⌝ }
     {
@@ -277,7 +277,7 @@ impl State {
         }
     }
 
-    // Pop: any count in one step.
+    // Pop (6): any count in one step.
     pub fn pop_matrix(mut self, count: u32, matrices: &mut [f32]) -> Answered
         ensures { λ r. ⌜ outcome r (now (matrices .exit)) ≡ carry area1 (popPlan self (tableIn matrixArea (self .counts) (now (matrices .entry))) count) self (now (matrices .entry)) ⌝ }
     {
@@ -310,7 +310,7 @@ impl State {
         }
     }
 
-    // Viewport: 16 bytes.
+    // Viewport (7): 16 bytes.
     pub fn set_viewport(mut self, data: &[u8], at: usize, viewports: &mut [f32]) -> Answered
         ensures { λ r. ⌜ outcome r (now (viewports .exit)) ≡ carry area2 (viewportPlan self (tableIn viewportArea (self .counts) (now (viewports .entry))) (now («data» .entry)) at) self (now (viewports .entry)) ⌝ }
     {
@@ -334,7 +334,7 @@ impl State {
         }
     }
 
-    // Geometry mode: (old AND off) OR on.
+    // Geometry mode (7): (old AND off) OR on. So `off` is a mask of the bits that are kept.
     pub fn modify_geometry_mode(mut self, off: u32, on: u32) -> Answered
         ensures { λ r. ⌜ outcome r tt ≡ carry nothing (geometryPlan (familyOf (self .microcode)) self off on) self tt ⌝ }
     {

@@ -58,7 +58,7 @@ impl State {
         }
     }
 
-    // Modify: attributes 0x10, 0x14, 0x18 and 0x1C. All is judged before anything is written.
+    // Modify (12): attributes 0x10, 0x14, 0x18 and 0x1C. All is judged before anything is written.
     pub fn modify_vertex(
         mut self,
         slot: u32,
@@ -113,7 +113,8 @@ impl State {
         }
     }
 
-    // Ink count: how many indices in use are of rows in use that have the colour word.
+    // Ink count (15): how many indices in use are of rows in use that have the colour word, its bytes as the row has them: those of
+    // modify's value the other way round.
     pub fn ink_count(
         mut self,
         colour: u32,

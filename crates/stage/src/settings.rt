@@ -72,7 +72,7 @@ fn told_of(sound: bool, there: bool, need: u32) -> Answer
 }
 
 impl State {
-    // Texture: the five numbers as given.
+    // Texture (8): the five numbers as given.
     pub fn set_texture(mut self, tile: u8, level: u8, on: bool, sc: u16, tc: u16) -> Answered
         ensures { λ r. ⌜ outcome r tt ≡ carry nothing (texturePlan self tile level on sc tc) self tt ⌝ }
     {
@@ -93,7 +93,7 @@ impl State {
         }
     }
 
-    // Fog: multiplier and offset.
+    // Fog (8): multiplier and offset.
     pub fn set_fog(mut self, multiplier: i16, offset: i16) -> Answered
         ensures { λ r. ⌜ outcome r tt ≡ carry nothing (fogPlan self multiplier offset) self tt ⌝ }
     {
@@ -108,7 +108,7 @@ impl State {
         }
     }
 
-    // Number of lights, told in bytes.
+    // Number of lights (9), told in bytes, 24 a light.
     pub fn set_num_lights(mut self, bytes: u32) -> Answered
         ensures { λ r. ⌜ outcome r tt ≡ carry nothing (numberPlan self (lightNumber bytes)) self tt ⌝ }
     {
@@ -124,7 +124,7 @@ impl State {
         }
     }
 
-    // Light: slot = number is the ambient colour, 3 bytes; else a slot's direction and colour, 11 bytes. A slot from 8 on
+    // Light (9): slot = number is the ambient colour, 3 bytes; else a slot's direction and colour, 11 bytes. A slot from 8 on
     // stores nothing.
     pub fn set_light(mut self, slot: u32, data: &[u8], at: usize) -> Answered
         ensures { λ r. ⌜ outcome r tt ≡ carry nothing (lightPlan self slot (now («data» .entry)) at) self tt ⌝ }
@@ -150,7 +150,7 @@ impl State {
         }
     }
 
-    // Lookat: 11 bytes, of which the direction. A slot from 2 on stores nothing.
+    // Lookat (9): 11 bytes, of which the direction. A slot from 2 on stores nothing.
     pub fn set_lookat(mut self, slot: u32, data: &[u8], at: usize) -> Answered
         ensures { λ r. ⌜ outcome r tt ≡ carry nothing (lookatPlan self slot (now («data» .entry)) at) self tt ⌝ }
     {
@@ -167,7 +167,7 @@ impl State {
         }
     }
 
-    // Microcode change: slots unloaded, the matrix undefined; matrices, tables and slots' rows stay.
+    // Microcode change (10): slots unloaded, the matrix undefined; matrices, tables and slots' rows stay.
     pub fn switch_microcode(mut self, to: Microcode) -> Answered
         ensures { λ r. ⌜ outcome r tt ≡ carry nothing (microcodePlan self to) self tt ⌝ }
     {

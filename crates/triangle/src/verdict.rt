@@ -1,5 +1,5 @@
 // What is to be done with a draw: its judge, in stages, over the numbers that it looks at. The refusals stand in the
-// order of document 01.
+// order of docs/REFERENCE.md 3.
 ghost use mathlib.Core.Path.{_≡_};
 ghost use Prim.Native.Nat.{_+_};
 ghost use lib.Dec.{leb};

@@ -1,4 +1,5 @@
--- What the loops of a load say of themselves: cited by the proofs of a load, by no command's contract and by no theorem. Definitions only.
+-- What the loop over a load's vertices says of itself: cited by the contract of `fill` and the proofs of a load, by no command's contract and by no
+-- theorem. Definitions only.
 use Prim.Native.Nat.{ℕ, zero, suc, _+_, _*_, _≤_}
 use mathlib.Core.Bool.{Bool, true, false}
 use mathlib.Core.Path.{_≡_}

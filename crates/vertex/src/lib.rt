@@ -1,5 +1,5 @@
-// A loaded vertex: its row of table 7, and what its slot gets. Each is made from the vertex and from what the rows of a
-// load share; no state is here.
+// The vertices of a load: the row of each in table 7, and what its slot gets, made from the vertex and from what the rows of
+// a load share. The columns of the slots are lent; no state is here.
 ghost use mathlib.Core.Path.{_≡_};
 ghost use Prim.Native.Nat.{_+_, _*_, _≤_};
 ghost use lib.ListN.{length};
@@ -24,7 +24,8 @@ pub const FLOATS: usize = areas::widths::FLOAT_WIDTH as usize;
 
 pub const WORDS: usize = areas::widths::WORD_WIDTH as usize;
 
-// What every row of a load shares: the numbers of its table entries, and the viewport's scale and translation for z.
+// What every row of a load shares: the numbers of its table entries, light count and texgen mode, fog as the row has it
+// (0, or place + 1), and the viewport's scale and translation for z.
 pub struct Shared {
     pub matrix: u32,
     pub viewport: u32,
@@ -46,7 +47,7 @@ pub struct Slot {
     pub z: f64,
 }
 
-// The floats of the row of `v`, from place `at` on. Asks for their room.
+// Stores the nine floats of the row of `v` from place `at` on, the screen numbers 0. Asks for their room.
 fn store_floats(floats: &mut [f32], at: usize, v: Vertex)
     requires { ⌜ at + floatWidth ≤ length (now floats) ⌝ }
     ensures { λ _. ⌜ now (floats .exit) ≡ put (now (floats .entry)) at (floatsOf v) ⌝ }
@@ -64,7 +65,7 @@ fn store_floats(floats: &mut [f32], at: usize, v: Vertex)
     floats[at + 8] = 0.0;
 }
 
-// The same for the words.
+// Stores the row's ten words likewise: what the load's rows share and the colour word of `v`, the modify flags 0.
 fn store_words(words: &mut [u32], at: usize, e: Shared, v: Vertex)
     requires { ⌜ at + wordWidth ≤ length (now words) ⌝ }
     ensures { λ _. ⌜ now (words .exit) ≡ put (now (words .entry)) at (wordsOf e v) ⌝ }
