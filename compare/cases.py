@@ -1,4 +1,4 @@
-"""Document 01's own cases and limits as traces, each with lines that the paper asks of the output."""
+"""Twelve cases and the limits as traces, each with lines that the rules ask of the output."""
 import struct
 
 import bytes_of
@@ -110,7 +110,7 @@ LIT = START + [op("geom", 0, 0xF0000), load(0, (0, 0, 1)), op("light", 1, data=b
 CULLED = op("geom", 0, 0x600)
 FRONT = op("geom", 0, 0x200)
 WRONG_RUN = op("write", 9, 6, 1)
-# Several faults at once: the order in which document 01 names them, and the least table.
+# Several faults at once: the order of REFERENCE 3.2, and the least table.
 ORDER = {
     "load-1-7-8": (CORNERS + short(0, 2, 6) + [op("load", 1, 256, data=b""), op("load", 0, 257, data=b""), op("load", 0, 2, data=bytes(31)),
                                                many(0, 2)], ["8 load 1 256 1", "9 load 1 257 0", "10 load 7 32", "11 load 8 1"]),
@@ -179,6 +179,6 @@ def scripts():
 
 
 def missing(name, output):
-    """The lines that the paper asks for and the output has not."""
+    """The lines that the rules ask for and the output has not."""
     have = set(output.split("\n"))
     return [line for line in ALL[name][2] if line not in have]

@@ -4,7 +4,7 @@
   make.py KIND SEED [--size N] > FILE        one trace of about N commands
   make.py --batch DIR --from SEED --count N [--kind KIND] [--size N]
 
-Kinds: domain (document 01's domain of comparison), numbers (there too: conversions and roundings),
+Kinds: domain (REFERENCE 18), numbers (there too: conversions and roundings),
 refusal (bad arguments, short data, short and full areas), forged (state and areas tampered with),
 edge (areas that fit exactly or lack one number).
 The same kind, seed and size make the same bytes.
@@ -237,7 +237,7 @@ def play(maker, size, mix):
 
 
 def prologue(m):
-    """Document 01's start of a comparison."""
+    """The start of a comparison."""
     m.do("open")
     m.do("pop", 32)
     m.do("matrix", 2, data=m.matrix_bytes())

@@ -1,7 +1,7 @@
 #!/usr/bin/env python3
-"""The stage as document 01 says it, in Python: reads a trace on standard input, prints the answers.
+"""The stage as docs/REFERENCE.md says it, in Python: reads a trace on standard input, prints the answers.
 
-It shares no text with the port or with the original, and so it is a second opinion on both.
+It shares no text with the stage or with the original, and so it is a second opinion on both.
 """
 import math
 import struct
@@ -123,7 +123,7 @@ def opening(areas):
     return state, (0,)
 
 
-# Judges, in document 01's order.
+# Judges, in the order of REFERENCE 3.2.
 
 def judge_state(s):
     counts_fit = all(n <= MOST_ENTRIES for n in s.counts[1:]) and s.counts[1] >= 1 and s.counts[2] >= 1

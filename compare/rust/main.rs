@@ -54,7 +54,7 @@ impl<'a> Script<'a> {
     }
 }
 
-/// Document 01's number and values for what the original calls by name.
+/// The stage's number and values for what the original calls by name.
 fn refusal(kind: DiagKind) -> String {
     match kind {
         DiagKind::InvalidCullRange { first, last } => format!("2 {first} {last}"),

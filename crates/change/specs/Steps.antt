@@ -1,5 +1,5 @@
 -- This file serves private steps of the code: who reads the promises need not read it. Definitions only.
--- The judge of a change: what is refused, in document 01's order, and the numbers that an accepted change comes to.
+-- The judge of a change: what is refused, in the order of REFERENCE 3.2, and the numbers that an accepted change comes to.
 use mathlib.Core.Path.{_≡_}
 use mathlib.Core.List.{List, [], _∷_}
 use Prim.Native.Nat.{ℕ, _+_, _-_, _*_, min}

@@ -1,4 +1,4 @@
-// Quotients by the papers' constants, each rounded once.
+// Quotients by the constants of REFERENCE 5, each rounded once.
 ghost use mathlib.Core.Path.{_≡_};
 ghost use lib.IntN.{pos};
 ghost use lib.Ieee.{binary32, binary64};

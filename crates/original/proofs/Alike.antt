@@ -1,4 +1,4 @@
--- The small pieces of the original and of the port are alike: flags, products, comparisons, clip code, screen z, pops, fog, lights. Assumes nothing.
+-- The small pieces of the original and of the stage are alike: flags, products, comparisons, clip code, screen z, pops, fog, lights. Assumes nothing.
 use mathlib.Core.Path.{_≡_, refl, sym, ap, ap₂, _∙_}
 use Prim.Native.Nat.{ℕ, zero, suc, _+_, _-_, _*_, _/_, _%_, _^_, _≤_, _<_}
 use native.Mathlib.Nat.{zero-add, zero-mul, one-mul, mul-div-cancel}
@@ -240,7 +240,7 @@ planes-sum a b c d e f =
     let s5 = next-plane e 4 _ (bitOf a 1 + bitOf b 2 + bitOf c 4 + bitOf d 8) s4 (omega arith) in
     next-plane f 5 _ (bitOf a 1 + bitOf b 2 + bitOf c 4 + bitOf d 8 + bitOf e 16) s5 (omega arith)
 
--- the port's code: a mark and a value
+-- the stage's code: a mark and a value
 pub coded : (t : Bool) (n : ℕ) → ClipCode
 coded t n = pick t (record { some = true; bits = n }) (record { some = false; bits = 0 })
 
@@ -262,7 +262,7 @@ code-same p =
     ap₂ (λ (t : Bool) (n : ℕ). cond {A = Option ℕ} t (some n) none) e (planes-sum (lt x (neg w)) (lt w x) (lt y (neg w)) (lt w y) (lt z (neg w)) (lt w z))
     ∙ coded-is (allFinite p) (bitsOf p)
 
--- the port's screen z: a mark and a value
+-- the stage's screen z: a mark and a value
 pub depth : (t : Bool) (z : Float) → ScreenZ
 depth t z = pick t (record { some = true; z = z }) (record { some = false; z = f0 })
 

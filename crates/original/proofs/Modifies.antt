@@ -71,7 +71,7 @@ needs (Texture x y) = true
 needs (Screen x y) = false
 needs (Depth z own) = false
 
--- a slot's screen z, by what a change has for it: as the original keeps it, and as the port does
+-- a slot's screen z, by what a change has for it: as the original keeps it, and as the stage does
 abbrev z-by : Option Float → ℕ → List (Option Float) → List (Option Float)
 z-by none slot l = l
 z-by (some z) slot l = set l slot (map-some z (getD l slot none))

@@ -1,4 +1,4 @@
--- Document 01's prologue, from the start: after it the two sides are the same; and demand 2. Assumes nothing.
+-- The prologue, from the start: after it the two sides are the same; and demand 2. Assumes nothing.
 use mathlib.Core.Path.{_≡_, refl, sym, ap, _∙_, subst}
 use Prim.Native.Nat.{ℕ, _+_}
 use native.Mathlib.Omega.{arith}

@@ -1,4 +1,4 @@
--- The original's readers of bytes and of words give what the port's definitions give, wherever the read lies inside the bytes. Assumes nothing.
+-- The original's readers of bytes and of words give what the stage's definitions give, wherever the read lies inside the bytes. Assumes nothing.
 use mathlib.Core.Path.{_≡_, refl, sym, ap, _∙_, subst}
 use Prim.Native.Nat.{ℕ, _+_, _-_, _*_, _/_, _%_, _^_, _≤_, _<_}
 use native.Mathlib.Nat.{le-trans, le-of-lt, lt-of-le-of-lt, lt-of-lt-of-le, mod-eq-of-lt, mul-assoc, mul-comm, mul-one, one-mul, add-assoc}

@@ -230,7 +230,7 @@ module _ {d : ℕ} {st p c : List Float} {t : List (List Float)} {m : Matrices} 
               let below-it : i < e - 1 = omega (arith, z) in
               rw (getD-set-other ms (e - 1) i y [] z) (rows-beside st v (e - 1) i below-it ∙ below i below-it)
 
-  -- the same matrices, their depth under the port's name
+  -- the same matrices, their depth under the stage's name
   abbrev named : Matrices
   named = with-stack m (m .model-stack) d
 

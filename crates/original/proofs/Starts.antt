@@ -1,4 +1,4 @@
--- The start, and document 01's prologue: after it the two sides are the same. Assumes nothing.
+-- The start, and the prologue: after it the two sides are the same. Assumes nothing.
 use mathlib.Core.Path.{_≡_, refl, sym, ap, ap₂, _∙_}
 use Prim.Native.Nat.{ℕ, zero, suc, _+_, _*_, _≤_, _<_}
 use native.Mathlib.Omega.{arith}

@@ -1,4 +1,4 @@
--- Document 01's domain, and what it is that the two sides agree on a command. Definitions only.
+-- The domain of comparison (REFERENCE 18), and what it is that the two sides agree on a command. Definitions only.
 use Prim.Native.Nat.{ℕ, _+_, _-_, _*_, _≤_, _<_}
 use mathlib.Core.Path.{_≡_}
 use mathlib.Core.List.{List, [], _∷_, _++_, map}
@@ -260,7 +260,7 @@ pub record Inhabited (u : Microcode) (n : ℕ) : Type 0 where
 
 -- ---- refusals that are the original's too
 
--- document 01's number and values for what the original answers
+-- the stage's number and values (REFERENCE 3) for what the original answers
 abbrev pub diagNumber : DiagKind → ℕ
 diagNumber (InvalidCullRange first last) = 2
 diagNumber (InvalidConditionalVertex index) = 3

@@ -31,7 +31,7 @@ use Rattle.original.specs.Walk.{World}
 
 -- ---- tables that begin differently
 
--- the number by which the original names entry m of a table: the port had a entries before the point, the original b
+-- the number by which the original names entry m of a table: the stage had a entries before the point, the original b
 abbrev pub over : ℕ → ℕ → ℕ → ℕ
 over a b m = m - a + b
 

@@ -1,6 +1,6 @@
 -- rsp.rs of the original: its state, matrices, viewport, settings and lights, function by function; lines are those of the Rust at dbd8d8c9d8.
 -- Names as there, `-` for `_`; the fields of `Rsp` stand in groups, so that a function names what it changes. A `Vec` is a list that only grows at its
--- end, an `Option` an Option, a counter a whole number. Left out, as document 01 says: materials, render modes, pairs, diagnostics lists, S2dex2.
+-- end, an `Option` an Option, a counter a whole number. Left out, since they stay with the old renderer: materials, render modes, pairs, diagnostics lists, S2dex2.
 use Prim.Native.Nat.{ℕ, zero, suc, _+_, _-_, _/_, min}
 use mathlib.Core.Bool.{Bool, true, false, not, _&&_, cond}
 use mathlib.Core.List.{List, [], _∷_, _++_}

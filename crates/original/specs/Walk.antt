@@ -1,4 +1,4 @@
--- A command of document 01 as the original executes it, and a list of them. Definitions only.
+-- A command of the stage as the original executes it, and a list of them. Definitions only.
 use Prim.Native.Nat.{ℕ}
 use mathlib.Core.Bool.{Bool, cond}
 use mathlib.Core.List.{List, [], _∷_}

@@ -1,4 +1,4 @@
--- Document 01's number and values of each answer. Two answers with the same number and the same values are the same (proofs/Apart.antt).
+-- The number and the values of each answer (REFERENCE 3). Two answers with the same number and the same values are the same (proofs/Apart.antt).
 use Prim.Native.Nat.{ℕ}
 use mathlib.Core.List.{List, [], _∷_}
 use Rattle.stage.specs.declared.Answer.{Answer}

@@ -1,4 +1,4 @@
--- The meaning of the cull test, the depth test and draw, of port order 6. The number of slots is a parameter. Definitions only.
+-- The meaning of the cull test, the depth test and draw (REFERENCE 13, 14). The number of slots is a parameter. Definitions only.
 use Prim.Native.Nat.{ℕ, zero, suc, _+_, _-_}
 use mathlib.Core.Bool.{Bool, true, false, not, _&&_}
 use mathlib.Core.List.{List, [], _∷_, map}

@@ -1,4 +1,4 @@
--- The meaning of the commands of port order 4, texture, fog, lights and lookat, and of the microcode change. Definitions only.
+-- The meaning of texture, fog, lights and lookat, and of the microcode change (REFERENCE 8 to 10). Definitions only.
 use Prim.Native.Nat.{ℕ, _+_}
 use mathlib.Core.Bool.{Bool, true}
 use mathlib.Core.List.{List, []}

@@ -1,4 +1,4 @@
--- The meaning of load (port order 5): what it settles first, then its rows. Definitions only.
+-- The meaning of load (REFERENCE 11): what it settles first, then its rows. Definitions only.
 use Prim.Native.Nat.{ℕ, _+_, _-_, _*_}
 use mathlib.Core.Bool.{Bool, not, _&&_}
 use mathlib.Core.List.{List, [], _∷_, map}

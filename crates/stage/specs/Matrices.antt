@@ -1,4 +1,4 @@
--- The meaning of the commands of port order 3: matrix, forced matrix, pop, viewport, geometry mode. Definitions only.
+-- The meaning of matrix, forced matrix, pop, viewport and geometry mode (REFERENCE 6, 7). Definitions only.
 use Prim.Native.Nat.{ℕ, _-_, _*_}
 use mathlib.Core.Bool.{Bool, true, _||_}
 use mathlib.Core.List.{List, [], _∷_, _++_}

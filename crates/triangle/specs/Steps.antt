@@ -1,5 +1,5 @@
 -- This file serves private steps of the code: who reads the promises need not read it. Definitions only.
--- What a draw looks at, as the code holds it, and the judge over those numbers, in document 01's order.
+-- What a draw looks at, as the code holds it, and the judge over those numbers, in the order of REFERENCE 3.2.
 use Prim.Native.Nat.{ℕ, _+_, _-_, _*_, _/_}
 use mathlib.Core.Bool.{Bool, true, false, not, _&&_, _||_}
 use mathlib.Core.List.{List, [], _∷_}
