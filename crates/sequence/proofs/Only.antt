@@ -1,5 +1,6 @@
 -- NO SECOND OUTCOME, COMMAND BY COMMAND: of two results that meet a command's contract, state and answer are equal, and every number of each area
--- that the command may write. `Learnt` is what the contract in the stage's src/ says, made from it anew at each check. Assumes nothing.
+-- that the command may write. `Learnt` is what the contract in the stage's src/ tells a caller. Each check makes it from the source anew, so no law
+-- here can part from it. Assumes nothing.
 use mathlib.Core.Path.{_≡_}
 use denote.Ref.{now}
 use Rattle.stage.specs.declared.Answered.{Answered}
@@ -24,8 +25,8 @@ use Rattle.stage.proofs.State.branch_z.Reads as depth
 use Rattle.stage.proofs.State.draw_tri.Reads as draw
 use Rattle.stage.proofs.State.ink_count.Reads as ink
 
--- C is a contract: C κs a r x says that the result r and the parameters x at exit meet it for the arguments a. numbers takes from x what the lent
--- areas hold then, `now`
+-- C is a contract: C κs a r x says that it is met, for the arguments a lent for the lifetimes κs, by the result r with the parameters x at exit.
+-- numbers takes from x what stands in the areas then, `now`
 abbrev pub Only : {K : Type 0} {G E : K → Type 0} {A : Type 0} → ((κs : K) → G κs → Answered → E κs → Type 0) → ((κs : K) → E κs → A) → Type 0
 Only {K} {G} {E} C numbers = (κs : K) (a : G κs) (r q : Answered) (x y : E κs) → C κs a r x → C κs a q y → (r ≡ q) × (numbers κs x ≡ numbers κs y)
 
