@@ -26,22 +26,23 @@ use Rattle.stage.specs.Draw.{cullPlan, depthPlan, runEdit, drawPlan}
 use Rattle.change.specs.Decoded.{decoded, floatsAfter, wordsAfter, depthAfter, appends}
 use Rattle.triangle.specs.Run.{closed, sameRun}
 use Rattle.triangle.specs.Slot.{held}
-use Rattle.prints.specs.Prints.{Prints, load, modify, drawn, three, twice}
+use Rattle.prints.specs.Prints.{Prints, viewed, load, modify, drawn, load0, load1, load2, draw1, modify1, draw2}
 
 pub prints : Prints
-unfolding load modify drawn three twice asking changed changePlan modifyPlan cullPlan depthPlan runEdit drawPlan decoded floatsAfter wordsAfter depthAfter appends moved closed sameRun held le ofRatio isRatio entryAt tripleAt viewportAt sqrt toBits rowTimes codeOf depthOf vertexAt put write matches texgenMode pick find sameScale refold floatsOf wordsOf clipOf slotAt slotOf verticesAt unless carry appended appending all stateSound blank openingPlan opening.opened viewing viewportPlan settled settledState sharedBy loadEdits loadPlan fillSlot fillSlots times rows laid add mul div neg lt ne
+unfolding viewed load modify drawn load0 load1 load2 draw1 modify1 draw2 asking changed changePlan modifyPlan cullPlan depthPlan runEdit drawPlan decoded floatsAfter wordsAfter depthAfter appends moved closed sameRun held le ofRatio isRatio entryAt tripleAt viewportAt sqrt toBits rowTimes codeOf depthOf vertexAt put write matches texgenMode pick find sameScale refold floatsOf wordsOf clipOf slotAt slotOf verticesAt unless carry appended appending all stateSound blank openingPlan opening.opened viewing viewportPlan settled settledState sharedBy loadEdits loadPlan fillSlot fillSlots times rows laid add mul div neg lt ne
 prints =
     record {
+      begins = (refl, refl);
       case1 = (refl, refl, refl);
-      case2 = refl;
-      case3 = (refl, refl);
-      case4 = (refl, refl);
-      case5 = (refl, refl, refl);
+      case2 = ((refl, refl), refl);
+      case3 = ((refl, refl), refl, refl);
+      case4 = ((refl, refl), refl, refl);
+      case5 = (((refl, refl), refl, refl), ((refl, refl), refl));
       case6 = (refl, refl, refl, refl);
       case7 = refl;
       case8 = (refl, refl, refl);
-      case9 = ((refl, refl), (refl, refl), (refl, refl));
-      case10 = (((refl, refl), refl), refl);
-      case11 = ((refl, refl), (refl, refl));
-      case12 = (refl, refl, refl);
+      case9 = (((refl, refl), (refl, refl)), ((refl, refl), (refl, refl)), ((refl, refl), (refl, refl)));
+      case10 = (((refl, refl), (refl, refl), (refl, refl)), (refl, refl));
+      case11 = (((refl, refl), (refl, refl), refl, refl), ((refl, refl), (refl, refl)));
+      case12 = (((refl, refl), (refl, refl), (refl, refl), (refl, refl), (refl, refl), (refl, refl)), (refl, refl, refl));
     }

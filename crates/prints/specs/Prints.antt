@@ -1,4 +1,5 @@
--- Document 01's cases as one table, a row for each, under the paper's number. `prints` of proofs/Proved.antt proves it whole.
+-- Document 01's cases as one table, a row for each, under the paper's number. A case that goes through commands says the number and the values
+-- of each one's answer. `prints` of proofs/Proved.antt proves it whole.
 use mathlib.Core.Path.{_≡_}
 use mathlib.Core.Bool.{true, false}
 use mathlib.Core.List.{List, [], _∷_, _++_}
@@ -11,7 +12,7 @@ use Rattle.numbers.specs.Sqrt.{sqrt}
 use Rattle.matrix.specs.Math.{at}
 use Rattle.decide.specs.Lights.{lightNumber}
 use Rattle.stage.specs.declared.State.{State}
-use Rattle.stage.specs.Plan.{Outcome, carry, table, nothing}
+use Rattle.stage.specs.Plan.{Outcome, carry, viewportArea, tableIn, nothing}
 use Rattle.stage.specs.Sound.{limit}
 use Rattle.stage.specs.Opening.{zeros, blank, openingPlan, areas12}
 use Rattle.stage.specs.Matrices.{viewportPlan, area2}
@@ -38,16 +39,28 @@ matrixBytes =
 abbrev pub viewportBytes : List ℕ
 viewportBytes = 0x02 ∷ 0x80 ∷ 0x01 ∷ 0xE0 ∷ 0x01 ∷ 0xFF ∷ replicate 10 0
 
--- what opening comes to, with room for one entry in tables 1 and 2; and the state it hands back
+-- what a command comes to has this number and these values; it is done, and tells nothing; it is done, and tells n
+abbrev pub Answers : {A : Type 0} → Outcome A → ℕ → List ℕ → Type 0
+Answers o n vs = (o .number ≡ n) × (o .values ≡ vs)
+
+abbrev pub Done : {A : Type 0} → Outcome A → Type 0
+Done o = Answers o 0 []
+
+abbrev pub Tells : {A : Type 0} → Outcome A → ℕ → Type 0
+Tells o n = Answers o 0 (n ∷ [])
+
+-- what opening comes to, with room for one entry in table 1 and two in table 2; and the state it hands back
 abbrev pub opening : Outcome (List Float × List Float)
-opening = carry areas12 (openingPlan (zeros 16) (zeros 6)) (blank false) (zeros 16, zeros 6)
+opening = carry areas12 (openingPlan (zeros 16) (zeros 12)) (blank false) (zeros 16, zeros 12)
 
 abbrev pub opened : State
 opened = opening .state
 
--- the same with a viewport whose z scale and translation are 511
-abbrev pub viewing : State
-viewing = carry area2 (viewportPlan opened (table 6 1 (zeros 12)) (replicate 4 0 ++ (0x01 ∷ 0xFF ∷ replicate 6 0) ++ (0x01 ∷ 0xFF ∷ 0 ∷ 0 ∷ [])) 0) opened (zeros 12) .state
+-- then a viewport whose z scale and translation are 511
+unfoldable pub viewed : Outcome (List Float)
+viewed =
+    let l = opening .areas .1 in
+    carry area2 (viewportPlan opened (tableIn viewportArea (opened .counts) l) (replicate 4 0 ++ (0x01 ∷ 0xFF ∷ replicate 6 0) ++ (0x01 ∷ 0xFF ∷ 0 ∷ 0 ∷ [])) 0) opened l
 
 -- the bytes of a vertex at a point of signed halves x, y, z
 abbrev pub pointBytes : ℕ → ℕ → ℕ → ℕ → ℕ → ℕ → List ℕ
@@ -57,66 +70,82 @@ pointBytes a b c d e f = a ∷ b ∷ c ∷ d ∷ e ∷ f ∷ replicate 10 0
 abbrev pub lentAreas : LoadAreas
 lentAreas = loadAreas (opening .areas .0) (zeros 8) [] [] [] (zeros 36) (replicate 40 0)
 
--- a load of n vertices into the slots from first on
+-- a load of n vertices into the slots from first on. Opening leaves the matrix undefined, so each load of these cases tells 1
 unfoldable pub load : State → LoadAreas → ℕ → ℕ → List ℕ → Outcome LoadAreas
 load s l first n bytes = loadMeans s first n bytes 0 l
 
--- the state after one vertex of these bytes is loaded into slot 0
-abbrev pub loaded : State → List ℕ → State
-loaded s bytes = load s lentAreas 0 1 bytes .state
+-- one vertex of these bytes loaded into slot 0, after opening
+abbrev pub one : List ℕ → Outcome LoadAreas
+one bytes = load opened lentAreas 0 1 bytes
 
--- a modify of a slot, after what o came to
-unfoldable pub modify : Outcome LoadAreas → ℕ → ℕ → ℕ → Outcome (List Float × List Float × List ℕ)
-modify o slot attribute value = modifyMeans (o .state) slot attribute value (o .areas .scales, o .areas .floats, o .areas .words)
+-- vertices of codes 34 and 32 loaded into slots 0 and 1, after opening
+abbrev pub both : Outcome LoadAreas
+both = load opened lentAreas 0 2 (pointBytes 0 2 0 0 0 2 ++ pointBytes 0 0 0 0 0 2)
 
--- a modify of slot 0, after one vertex with a screen z is loaded into it
+-- a vertex with a screen z loaded into slot 0, after that viewport
+abbrev pub deep : Outcome LoadAreas
+deep = load (viewed .state) lentAreas 0 1 (pointBytes 0 0 0 0 0 1)
+
+-- a modify of a slot
+unfoldable pub modify : State → LoadAreas → ℕ → ℕ → ℕ → Outcome (List Float × List Float × List ℕ)
+modify s l slot attribute value = modifyMeans s slot attribute value (l .scales, l .floats, l .words)
+
+-- a modify of slot 0, after the vertex with a screen z is loaded into it
 abbrev pub modified : ℕ → ℕ → Outcome (List Float × List Float × List ℕ)
-modified attribute value = modify (load viewing lentAreas 0 1 (pointBytes 0 0 0 0 0 1)) 0 attribute value
+modified attribute value = modify (deep .state) (deep .areas) 0 attribute value
+
+-- the cull test of slots 0 and 1, and the depth test of slot 0
+abbrev pub culled : State → Outcome (Unit {0})
+culled s = carry nothing (cullPlan (limit s) s 0 1) s tt
+
+abbrev pub near : State → ℕ → Outcome (Unit {0})
+near s threshold = carry nothing (depthPlan (limit s) s 0 threshold) s tt
 
 -- a draw of slots 0, 1 and 2 with the areas l
 unfoldable pub drawn : State → List ℕ × List ℕ → Outcome (List ℕ × List ℕ)
 drawn s l = drawMeans s 0 1 2 (0 ∷ 0 ∷ 0 ∷ 0 ∷ []) l
 
--- slot 0 has the clip code n
-abbrev pub Code : State → ℕ → Type 0
-Code s n = (getD (s .coded) 0 false ≡ true) × (getD (s .code) 0 99 ≡ n)
+-- a slot has the clip code n
+abbrev pub Code : State → ℕ → ℕ → Type 0
+Code s slot n = (getD (s .coded) slot false ≡ true) × (getD (s .code) slot 99 ≡ n)
 
--- vertices of codes 34 and 32 in slots 0 and 1
-abbrev pub both : State
-both = load opened lentAreas 0 2 (pointBytes 0 2 0 0 0 2 ++ pointBytes 0 0 0 0 0 2) .state
-
--- a vertex with a screen z in slot 0, and what the depth test tells of it
-abbrev pub deep : State
-deep = loaded viewing (pointBytes 0 0 0 0 0 1)
-
-abbrev pub Near : ℕ → ℕ → Type 0
-Near threshold n = carry nothing (depthPlan (limit deep) deep 0 threshold) deep tt .values ≡ n ∷ []
+-- one vertex of these bytes is loaded, and has the clip code n
+abbrev pub Coded : List ℕ → ℕ → Type 0
+Coded bytes n = Tells (one bytes) 1 × Code (one bytes .state) 0 n
 
 -- three loads, of a vertex each, into slots 0, 1 and 2
-unfoldable pub three : Outcome LoadAreas
-three =
-    let a = load opened lentAreas 0 1 (pointBytes 0 0 0 0 0 0) in
-    let b = load (a .state) (a .areas) 1 1 (pointBytes 0 1 0 0 0 0) in
-    load (b .state) (b .areas) 2 1 (pointBytes 0 0 0 1 0 0)
+unfoldable pub load0 : Outcome LoadAreas
+load0 = load opened lentAreas 0 1 (pointBytes 0 0 0 0 0 0)
 
--- then draw 0 1 2, modify slot 1, draw again; with room for 6 indices and one run
-unfoldable pub twice : Outcome (List ℕ × List ℕ)
-twice =
-    let d = drawn (three .state) (replicate 6 99, replicate 8 99) in
-    let m = modify (record { state = d .state; number = 0; values = []; areas = three .areas }) 1 0x10 0 in
-    drawn (m .state) (d .areas)
+unfoldable pub load1 : Outcome LoadAreas
+load1 = load (load0 .state) (load0 .areas) 1 1 (pointBytes 0 1 0 0 0 0)
+
+unfoldable pub load2 : Outcome LoadAreas
+load2 = load (load1 .state) (load1 .areas) 2 1 (pointBytes 0 0 0 1 0 0)
+
+-- then draw 0 1 2, with room for 6 indices and one run; modify slot 1; draw again
+unfoldable pub draw1 : Outcome (List ℕ × List ℕ)
+draw1 = drawn (load2 .state) (replicate 6 99, replicate 8 99)
+
+unfoldable pub modify1 : Outcome (List Float × List Float × List ℕ)
+modify1 = modify (draw1 .state) (load2 .areas) 1 0x10 0
+
+unfoldable pub draw2 : Outcome (List ℕ × List ℕ)
+draw2 = drawn (modify1 .state) (draw1 .areas)
 
 pub record Prints : Type 0 where
+  -- what the cases of commands begin with
+  pub begins : Done opening
   -- 1. whole 1, fraction 0x8000: 1.5; whole -1: -0.5; 32767 and 65535: 32768
   pub case1 : Is (entryAt matrixBytes 0 0) (pos 3) 2 × Is (entryAt matrixBytes 0 1) (negsuc 0) 2 × Is (entryAt matrixBytes 0 2) (pos 32768) 1
   -- 2. 0x10 with 0x11223344: 0x44332211
-  pub case2 : getD (modified 0x10 0x11223344 .areas .2) 4 0 ≡ 0x44332211
+  pub case2 : Done (modified 0x10 0x11223344) × (getD (modified 0x10 0x11223344 .areas .2) 4 0 ≡ 0x44332211)
   -- 3. 0x14 with 0xFFE00040: -1 and 2
-  pub case3 : Is (at (modified 0x14 0xFFE00040 .areas .1) 3) (negsuc 0) 1 × Is (at (modified 0x14 0xFFE00040 .areas .1) 4) (pos 2) 1
+  pub case3 : Done (modified 0x14 0xFFE00040) × Is (at (modified 0x14 0xFFE00040 .areas .1) 3) (negsuc 0) 1 × Is (at (modified 0x14 0xFFE00040 .areas .1) 4) (pos 2) 1
   -- 4. 0x18 with 0x0004FFFE: 1 and -0.5
-  pub case4 : Is (at (modified 0x18 0x0004FFFE .areas .1) 5) (pos 1) 1 × Is (at (modified 0x18 0x0004FFFE .areas .1) 6) (negsuc 0) 2
+  pub case4 : Done (modified 0x18 0x0004FFFE) × Is (at (modified 0x18 0x0004FFFE .areas .1) 5) (pos 1) 1 × Is (at (modified 0x18 0x0004FFFE .areas .1) 6) (negsuc 0) 2
   -- 5. 0x1C with 16777217: 0.25, slot z 16777217/65536; with 0xFFFFFFFF: 64
-  pub case5 : Is (at (modified 0x1C 16777217 .areas .1) 7) (pos 1) 4 × Is (at (modified 0x1C 16777217 .state .z) 0) (pos 16777217) 65536 × Is (at (modified 0x1C 0xFFFFFFFF .areas .1) 7) (pos 64) 1
+  pub case5 : (Done (modified 0x1C 16777217) × Is (at (modified 0x1C 16777217 .areas .1) 7) (pos 1) 4 × Is (at (modified 0x1C 16777217 .state .z) 0) (pos 16777217) 65536) × (Done (modified 0x1C 0xFFFFFFFF) × Is (at (modified 0x1C 0xFFFFFFFF .areas .1) 7) (pos 64) 1)
   -- 6. lights 23, 48, 191, 500: 0, 2, 7, 7
   pub case6 : (lightNumber 23 ≡ 0) × (lightNumber 48 ≡ 2) × (lightNumber 191 ≡ 7) × (lightNumber 500 ≡ 7)
   -- 7. square root of 2.0f: bits 0x3FB504F3
@@ -124,10 +153,10 @@ pub record Prints : Type 0 where
   -- 8. viewport scale 640, 480, 511: 160, 120, 0.4990234375
   pub case8 : Is (at (viewportAt viewportBytes 0 .scale) 0) (pos 160) 1 × Is (at (viewportAt viewportBytes 0 .scale) 1) (pos 120) 1 × Is (at (viewportAt viewportBytes 0 .scale) 2) (pos 4990234375) 10000000000
   -- 9. identity, points (1,0,0), (2,0,0), (2,-3,4): codes 0, 2, 38
-  pub case9 : Code (loaded opened (pointBytes 0 1 0 0 0 0)) 0 × Code (loaded opened (pointBytes 0 2 0 0 0 0)) 2 × Code (loaded opened (pointBytes 0 2 0xFF 0xFD 0 4)) 38
+  pub case9 : Coded (pointBytes 0 1 0 0 0 0) 0 × Coded (pointBytes 0 2 0 0 0 0) 2 × Coded (pointBytes 0 2 0xFF 0xFD 0 4) 38
   -- 10. codes 34 and 32: not culled
-  pub case10 : (Code both 34 × (getD (both .code) 1 99 ≡ 32)) × (carry nothing (cullPlan (limit both) both 0 1) both tt .values ≡ 0 ∷ [])
+  pub case10 : (Tells both 1 × Code (both .state) 0 34 × Code (both .state) 1 32) × Tells (culled (both .state)) 0
   -- 11. point (0,0,1), z scale and translation 511: screen z 1022; threshold 66977792 yes, 66977791 no
-  pub case11 : ((getD (deep .deep) 0 false ≡ true) × Is (at (deep .z) 0) (pos 1022) 1) × (Near 66977792 1 × Near 66977791 0)
+  pub case11 : (Done viewed × Tells deep 1 × (getD (deep .state .deep) 0 false ≡ true) × Is (at (deep .state .z) 0) (pos 1022) 1) × (Tells (near (deep .state) 66977792) 1 × Tells (near (deep .state) 66977791) 0)
   -- 12. three loads, draw 0 1 2, modify slot 1, draw again: indices 0 1 2 0 3 2, one run of 6
-  pub case12 : (twice .areas .0 ≡ 0 ∷ 1 ∷ 2 ∷ 0 ∷ 3 ∷ 2 ∷ []) × (twice .areas .1 ≡ 0 ∷ 0 ∷ 0 ∷ 0 ∷ 0 ∷ 0 ∷ 0 ∷ 6 ∷ []) × (twice .state .counts .runs ≡ 1)
+  pub case12 : (Tells load0 1 × Tells load1 1 × Tells load2 1 × Done draw1 × Done modify1 × Done draw2) × ((draw2 .areas .0 ≡ 0 ∷ 1 ∷ 2 ∷ 0 ∷ 3 ∷ 2 ∷ []) × (draw2 .areas .1 ≡ 0 ∷ 0 ∷ 0 ∷ 0 ∷ 0 ∷ 0 ∷ 0 ∷ 6 ∷ []) × (draw2 .state .counts .runs ≡ 1))

@@ -9,3 +9,4 @@ pub mod Passed
 pub mod Joined
 pub mod Spelled
 pub mod Placed
+pub mod Only
