@@ -1,4 +1,4 @@
--- Document 01's cases, proved as a single table: each row by computation of the definitions that the contracts cite. Assumes nothing.
+-- The twelve cases, proved as a single table: each row by computation of the definitions that the contracts cite. Assumes nothing.
 use mathlib.Core.Path.{refl}
 use lib.Ieee.{toBits, add, mul, div, neg, lt, le, eq, ne}
 use Rattle.numbers.specs.Ratio.{ofRatio, isRatio}

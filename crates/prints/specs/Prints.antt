@@ -1,4 +1,4 @@
--- Document 01's cases as one table, a row for each, under the paper's number. A case that goes through commands says the number and the values
+-- Twelve cases of the rules as one table, a row for each. A case that goes through commands says the number and the values
 -- of each one's answer. `prints` of proofs/Proved.antt proves it whole.
 use mathlib.Core.Path.{_≡_}
 use mathlib.Core.Bool.{true, false}
