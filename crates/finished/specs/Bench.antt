@@ -49,11 +49,11 @@ pub record Values : Type 0 where
   -- the unit scale entry has been appended
   pub unit : Bool
 
+-- slots, settings, values, and what was drawn
 pub record Bench : Type 0 where
   pub slots : List Corner
   pub settings : Settings
   pub values : Values
-  -- what was drawn
   pub triangles : List Triangle
 
 -- an empty slot, and the bench at opening

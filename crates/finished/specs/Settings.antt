@@ -55,13 +55,14 @@ pub record Axes : Type 0 where
   pub axes : List Float
   pub fold : Fold
 
+-- all that commands set
 pub record Settings : Type 0 where
   pub modes : Modes
   pub space : Space
   pub lights : Lamps
   pub lookat : Axes
 
--- as they are at opening
+-- nothing folded yet; and the settings at opening
 abbrev pub unfolded : Fold
 unfolded = record { changed = false; folded = false; top = zeros 16 }
 
@@ -114,6 +115,7 @@ turnedTo push load projection m x =
 
 -- ---- modes
 
+-- another geometry mode word, fog pair, texture scales or microcode
 abbrev pub geometryTo : Settings → ℕ → Modes
 geometryTo s g = record { microcode = s .modes .microcode; geometry = g; fog = s .modes .fog; sc = s .modes .sc; tc = s .modes .tc }
 
