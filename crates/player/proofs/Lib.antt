@@ -1,3 +1,4 @@
 pub mod Acting
 pub mod Applied
 pub mod Playing
+pub mod Runs
