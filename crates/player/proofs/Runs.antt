@@ -4,7 +4,7 @@ use Prim.Native.Nat.{ℕ, zero, suc, min}
 use native.Mathlib.Omega.{arith}
 use mathlib.Core.Bool.{Bool, true, false, _&&_}
 use mathlib.Core.List.{List, [], _∷_, _++_, map, append-nil}
-use lib.ListN.{length, take, drop, getD, length-replicate}
+use lib.ListN.{length, drop, getD, length-replicate}
 use lib.Seq.{take-length, drop-length}
 use lib.Dec.{eqb, ltb}
 use lib.IntN.{pos}
@@ -25,7 +25,7 @@ use Rattle.trace.specs.Script.{callAt}
 use Rattle.trace.specs.Shapes.{shapeOf}
 use Rattle.player.specs.Ops.{Act, opens, sends, pokes, rests, stage, acted, setOf, turnOf, actOf, lesser, firsts, behind, lendBy, writtenBy, stepBy}
 use Rattle.player.specs.Play.{portOf, lengthsIn, dataOf, playFrom}
-use Rattle.player.specs.Replay.{seven, made, replayed, actsFrom, actsOf, Sends, Plain, afterActs, ReplayRuns, ReplayActs}
+use Rattle.player.specs.Replay.{seven, made, actsFrom, Plain, afterActs, ReplayRuns, ReplayActs}
 
 -- ---- all of each area lent
 
@@ -45,6 +45,7 @@ sizes l =
       runs = length (l .drawing .runs);
     }
 
+-- what is lent is all there is, and nothing lies behind it
 min-same : (n : ℕ) → min n n ≡ n
 min-same n = omega arith
 
@@ -98,14 +99,14 @@ behind-is l x =
     }
 
 -- an op that is no write leaves what is not lent
-unwritten : (c : Call) (l : Areas) → eqb (c .op) 35 ≡ false → writtenBy c l ≡ l
+unwritten : (c : Call) (l : Areas) → eqb (c .op) 0x23 ≡ false → writtenBy c l ≡ l
 unfolding writtenTo pick
 unwritten c l e = rw e
 
 -- AN OP OVER ALL OF EACH AREA, but for a write, is its act: answer, state and areas
-pub whole-step : (c : Call) (d : List ℕ) (p : Port) → eqb (c .op) 35 ≡ false → stepBy c d (sizes (p .areas)) p ≡ acted (actOf c d) p
+pub whole-step : (c : Call) (d : List ℕ) (p : Port) → (c .op ≡ 0x23 → ⊥) → stepBy c d (sizes (p .areas)) p ≡ acted (actOf c d) p
 unfolding stepBy lendBy
-whole-step c d p e = ap written (ap by (lesser-is l) ∙ ap over (firsts-is l) ∙ back) ∙ kept
+whole-step c d p h = ap written (ap by (lesser-is l) ∙ ap over (firsts-is l) ∙ back) ∙ kept
   where
     l : Areas
     l = p .areas
@@ -114,10 +115,11 @@ whole-step c d p e = ap written (ap by (lesser-is l) ∙ ap over (firsts-is l) �
     on : Areas → Outcome Areas
     on x = acted (actOf c d) (record { state = p .state; areas = x })
 
-    -- with k of the areas lent
+    -- with so much of each lent
     by : Lengths → Outcome Areas
     by k = record { state = on (firsts k l) .state; number = on (firsts k l) .number; values = on (firsts k l) .values; areas = behind k l (on (firsts k l) .areas) }
 
+    -- with all of each lent, of which x is what there is
     over : Areas → Outcome Areas
     over x = record { state = on x .state; number = on x .number; values = on x .values; areas = behind (sizes l) l (on x .areas) }
 
@@ -128,10 +130,11 @@ whole-step c d p e = ap written (ap by (lesser-is l) ∙ ap over (firsts-is l) �
     written o = record { state = o .state; number = o .number; values = o .values; areas = writtenBy c (o .areas) }
 
     kept : written (on l) ≡ on l
-    kept = λ i. record { state = on l .state; number = on l .number; values = on l .values; areas = unwritten c (on l .areas) e i }
+    kept = λ i. record { state = on l .state; number = on l .number; values = on l .values; areas = unwritten c (on l .areas) (ne-eqb (c .op) 0x23 h) i }
 
 -- ---- no act changes a length
 
+-- of one area, by a command's edits
 length-in : {A : Type 0} (k : Area A) (c : Counts) (e : Edits) (l : List A) → length (afterIn k c e l) ≡ length l
 length-in {A} k c e l = by (k .edit e)
   where
@@ -140,6 +143,7 @@ length-in {A} k c e l = by (k .edit e)
     by (grow es) = length-write (k .width) (k .count c) es l
     by (patch i u) = length-write (k .width) i (u ∷ []) l
 
+-- of all, by a plan
 sizes-carried : (q : Plan) (s : State) (l : Areas) → sizes (carry afterAll q s l .areas) ≡ sizes l
 unfolding carry
 sizes-carried (refuse n vs) s l = refl
@@ -159,6 +163,7 @@ sizes-carried (does vs t e) s l =
       runs = length-in runArea c e (l .drawing .runs) i;
     }
 
+-- by a plan of opening
 sizes-opened : (q : Plan) (s : State) (l : Areas)
     → let x : List Float × List Float = (l .matrices, l .viewports) in
     sizes (with12 l (carry areas12 q s x .areas)) ≡ sizes l
@@ -180,6 +185,7 @@ sizes-opened (does vs t e) s l =
       runs = length (l .drawing .runs);
     }
 
+-- by any act
 sizes-acted : (a : Act) (p : Port) → sizes (acted a p .areas) ≡ sizes (p .areas)
 unfolding acted result
 sizes-acted opens p = sizes-opened (openingPlan (p .areas .matrices) (p .areas .viewports)) (blank false) (p .areas)
@@ -232,7 +238,7 @@ module _ (c : Call) (d : List ℕ) (n : Lengths) (p : Port) (e : n ≡ sizes (p 
   -- an op that is no write leaves what its act leaves
   by-act : (c .op ≡ 0x23 → ⊥) → portAfter c d n p ≡ actPort (actOf c d) p
   by-act h =
-      let o : stepBy c d n p ≡ acted (actOf c d) p = ap (λ (k : Lengths). stepBy c d k p) e ∙ whole-step c d p (ne-eqb (c .op) 0x23 h) in
+      let o : stepBy c d n p ≡ acted (actOf c d) p = ap (λ (k : Lengths). stepBy c d k p) e ∙ whole-step c d p h in
       λ i. portOf (o i .state) (o i .areas)
 
   -- a mark leaves all as it is
@@ -268,6 +274,7 @@ one-more n s lent f at p e h = there (ltb at (length s) && c .whole) h
         let u : lengthsIn (lentAfter c (lengthList lent)) ≡ lent = unlent c lent (ne-eqb (c .op) 0x20 g) in
         (λ i. playFrom n s (c .to) (u i) (o i)) ∙ f (c .to) q (e ∙ sym z) k
 
+    -- an op that is whole, a mark or not
     whole : (b : Bool) → eqb (c .op) 0x21 ≡ b → Plain (pick b later (actOf c d ∷ later)) → left ≡ afterActs (pick b later (actOf c d ∷ later)) p
     whole true m k =
         let g = eqb-true (c .op) 0x21 m in
@@ -276,10 +283,12 @@ one-more n s lent f at p e h = there (ltb at (length s) && c .whole) h
         let w = awake (actOf c d) later k in
         next (actPort (actOf c d) p) (λ z. w (lend-rests c d z)) (by-act c d lent p e (λ z. w (write-rests c d z))) (sizes-acted (actOf c d) p) (plain-behind (actOf c d) later k)
 
+    -- an op, whole or not
     there : (b : Bool) → Plain (pick b (pick (eqb (c .op) 0x21) later (actOf c d ∷ later)) []) → pick b left p ≡ afterActs (pick b (pick (eqb (c .op) 0x21) later (actOf c d ∷ later)) []) p
     there true k = whole (eqb (c .op) 0x21) refl k
     there false k = refl
 
+-- so any number of them
 acts-left : (n : ℕ) (s : List ℕ) (lent : Lengths) → ActsLeft n s lent
 unfolding playFrom actsFrom
 acts-left zero s lent = λ at p e h. refl
@@ -308,6 +317,7 @@ replay-acts s h = acts-left (length s) s (lengthsOf s) 44 (portOf (blank false) 
 
 -- ---- commands alone
 
+-- commands are plain
 plain-sends : (cs : List Command) → Plain (map sends cs)
 plain-sends [] = tt
 plain-sends (c ∷ cs) = plain-sends cs

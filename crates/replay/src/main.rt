@@ -65,7 +65,7 @@ fn play(
     g.state
 }
 
-// Dumps what the script s leaves.
+// Dumps what the script s leaves, which its `requires` says; s serves that alone.
 fn finish(
     s: &[u8],
     state: State,
