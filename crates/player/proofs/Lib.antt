@@ -1,3 +1,5 @@
 pub mod Acting
 pub mod Applied
 pub mod Playing
+pub mod Runs
+pub mod Believe

@@ -1,3 +1,4 @@
 pub mod Acts
 pub mod Ops
 pub mod Play
+pub mod Replay

@@ -17,78 +17,90 @@ use Rattle.stage.specs.declared.settings.Microcode.{Microcode}
 use Rattle.stage.specs.declared.settings.Microcode.the-variants.{F3dex2, F3dex2NoN}
 use Rattle.stage.specs.Plan.{Outcome, outcome, carry}
 use Rattle.stage.specs.Opening.{blank, openingPlan, areas12}
-use Rattle.sequence.specs.Sequence.{Command, matrix, force, pop, viewport, geometry, texture, fog, number, light, lookat, microcode, load, cull, depth, modify, draw, ink, Areas, Port, plan, result, with12}
+use Rattle.sequence.specs.Sequence.{Command, matrix, force, pop, viewport, geometry, texture, fog, number, light, lookat, microcode, load, cull, depth, modify, draw, ink, Areas, Port, Machine, plan, result, with12}
 use Rattle.trace.specs.declared.rooms.Lengths.{Lengths}
 use Rattle.trace.specs.declared.script.Call.{Call}
 use Rattle.trace.specs.Acts.{writtenTo}
 use Rattle.player.specs.Acts.{pokedState}
 
--- the op k does x; another does y
-abbrev pub on : {A : Type 0} → Call → ℕ → A → A → A
-on c k x y = pick (eqb (c .op) k) x y
+-- the stage: F3DEX2's flags and 256 slots
+abbrev pub stage : Machine
+stage = plan familyOf limit
 
--- a command of the stage
-abbrev pub by : Command → Port → Outcome Areas
-by m p = result (plan familyOf limit) m p
-
--- an opening on the port's areas, whatever its state
-abbrev pub opens : Port → Outcome Areas
-opens p =
-    let x : List Float × List Float = (p .areas .matrices, p .areas .viewports) in
-    let o = carry areas12 (openingPlan (p .areas .matrices) (p .areas .viewports)) (blank false) x in
-    record { state = o .state; number = o .number; values = o .values; areas = with12 (p .areas) (o .areas) }
+-- what an op is to the stage
+pub data Act : Type 0 where
+  opens : Act
+  sends : Command → Act
+  -- field, index, value
+  pokes : ℕ → ℕ → ℕ → Act
+  -- lend and write, which the driver does by itself, and mark
+  rests : Act
 
 -- done with the state s, and no area changed
 abbrev pub leaves : State → Port → Outcome Areas
 leaves s p = record { state = s; number = 0; values = []; areas = p .areas }
 
+-- what an act comes to: a command as sequences have it, an opening whatever the state
+unfoldable pub acted : Act → Port → Outcome Areas
+acted opens p =
+    let x : List Float × List Float = (p .areas .matrices, p .areas .viewports) in
+    let o = carry areas12 (openingPlan (p .areas .matrices) (p .areas .viewports)) (blank false) x in
+    record { state = o .state; number = o .number; values = o .values; areas = with12 (p .areas) (o .areas) }
+acted (sends m) p = result stage m p
+acted (pokes f i v) p = leaves (pokedState (p .state) f i v) p
+acted rests p = leaves (p .state) p
+
+-- the op k is x; another is y
+abbrev pub on : Call → ℕ → Act → Act → Act
+on c k x y = pick (eqb (c .op) k) x y
+
 -- the microcode of a word: its lowest bit
 abbrev pub microcodeOf : ℕ → Microcode
 microcodeOf n = pick (eqb (n % 2) 0) F3dex2 F3dex2NoN
 
--- the ops that are lent no area; lend, mark and write leave what there is
-unfoldable pub setBy : Call → List ℕ → Port → Outcome Areas
-setBy c d p =
+-- the ops that are lent no area, with the data d
+unfoldable pub setOf : Call → List ℕ → Act
+setOf c d =
     let x = c .args in
-    on c 0x05 (by (geometry (x .a) (x .b)) p)
-    (on c 0x07 (by (texture (x .a % 256) (x .b % 256) (eqb (x .c % 2) 1) (x .d % 65536) (x .e % 65536)) p)
-    (on c 0x08 (by (fog (signed 16 (x .a % 65536)) (signed 16 (x .b % 65536))) p)
-    (on c 0x09 (by (number (x .a)) p)
-    (on c 0x0a (by (light (x .a) d 0) p)
-    (on c 0x0b (by (lookat (x .a) d 0) p)
-    (on c 0x0d (by (cull (x .a) (x .b)) p)
-    (on c 0x0e (by (depth (x .a) (x .b)) p)
-    (on c 0x11 (by (microcode (microcodeOf (x .a))) p)
-    (on c 0x22 (leaves (pokedState (p .state) (x .a) (x .b) (x .c)) p)
-    (leaves (p .state) p))))))))))
+    on c 0x05 (sends (geometry (x .a) (x .b)))
+    (on c 0x07 (sends (texture (x .a % 256) (x .b % 256) (eqb (x .c % 2) 1) (x .d % 65536) (x .e % 65536)))
+    (on c 0x08 (sends (fog (signed 16 (x .a % 65536)) (signed 16 (x .b % 65536))))
+    (on c 0x09 (sends (number (x .a)))
+    (on c 0x0a (sends (light (x .a) d 0))
+    (on c 0x0b (sends (lookat (x .a) d 0))
+    (on c 0x0d (sends (cull (x .a) (x .b)))
+    (on c 0x0e (sends (depth (x .a) (x .b)))
+    (on c 0x11 (sends (microcode (microcodeOf (x .a))))
+    (on c 0x22 (pokes (x .a) (x .b) (x .c))
+    rests)))))))))
 
 -- what is lent none does that in any areas
 abbrev pub SetAre : Call → List ℕ → State → Answered → Type 0
-SetAre c d s r = (l : Areas) → outcome r l ≡ setBy c d (record { state = s; areas = l })
+SetAre c d s r = (l : Areas) → outcome r l ≡ acted (setOf c d) (record { state = s; areas = l })
 
 -- the ops on matrices and viewport, and those
-unfoldable pub turnBy : Call → List ℕ → Port → Outcome Areas
-turnBy c d p =
-    on c 0x01 (opens p)
-    (on c 0x02 (by (matrix (c .args .a % 256) d 0) p)
-    (on c 0x03 (by (force d 0) p)
-    (on c 0x04 (by (pop (c .args .a)) p)
-    (on c 0x06 (by (viewport d 0) p)
-    (setBy c d p)))))
+unfoldable pub turnOf : Call → List ℕ → Act
+turnOf c d =
+    on c 0x01 opens
+    (on c 0x02 (sends (matrix (c .args .a % 256) d 0))
+    (on c 0x03 (sends (force d 0))
+    (on c 0x04 (sends (pop (c .args .a)))
+    (on c 0x06 (sends (viewport d 0))
+    (setOf c d)))))
 
 -- what is lent tables 1 and 2 does that in any areas that have them
 abbrev pub TurnAre : Call → List ℕ → State → List Float × List Float → Answered → List Float × List Float → Type 0
-TurnAre c d s x r y = (l : Areas) → outcome r (with12 l y) ≡ turnBy c d (record { state = s; areas = with12 l x })
+TurnAre c d s x r y = (l : Areas) → outcome r (with12 l y) ≡ acted (turnOf c d) (record { state = s; areas = with12 l x })
 
--- the ops on vertices and triangles, and those: every op but for what `write` stores
-unfoldable pub applyBy : Call → List ℕ → Port → Outcome Areas
-applyBy c d p =
+-- the ops on vertices and triangles, and those: WHAT EVERY OP IS
+unfoldable pub actOf : Call → List ℕ → Act
+actOf c d =
     let x = c .args in
-    on c 0x0c (by (load (x .a) (x .b) d 0) p)
-    (on c 0x0f (by (modify (x .a) (x .b) (x .c)) p)
-    (on c 0x10 (by (draw (x .a) (x .b) (x .c) (x .d) (x .e) (x .f) (x .g)) p)
-    (on c 0x12 (by (ink (x .a)) p)
-    (turnBy c d p))))
+    on c 0x0c (sends (load (x .a) (x .b) d 0))
+    (on c 0x0f (sends (modify (x .a) (x .b) (x .c)))
+    (on c 0x10 (sends (draw (x .a) (x .b) (x .c) (x .d) (x .e) (x .f) (x .g)))
+    (on c 0x12 (sends (ink (x .a)))
+    (turnOf c d))))
 
 -- ---- what is lent
 
@@ -157,7 +169,7 @@ behind n l x =
 unfoldable pub lendBy : Call → List ℕ → Lengths → Port → Outcome Areas
 lendBy c d n p =
     let k = lesser n (p .areas) in
-    let o = applyBy c d (record { state = p .state; areas = firsts k (p .areas) }) in
+    let o = acted (actOf c d) (record { state = p .state; areas = firsts k (p .areas) }) in
     record { state = o .state; number = o .number; values = o .values; areas = behind k (p .areas) (o .areas) }
 
 -- the areas after what `write` stores, lent or not

@@ -6,7 +6,7 @@ ghost use lib.Dec.{eqb};
 ghost use Rattle.stage.specs.Opening.{blank};
 ghost use Rattle.stage.specs.Plan.{outcome, carry, nothing};
 ghost use Rattle.stage.specs.Lights.{texturePlan, microcodePlan};
-ghost use Rattle.player.specs.Ops.{microcodeOf, SetAre, TurnAre, applyBy, areasOf, stepBy};
+ghost use Rattle.player.specs.Ops.{microcodeOf, SetAre, TurnAre, acted, actOf, areasOf, stepBy};
 ghost use Rattle.numbers.specs.Ratio.{signed as Ratio·signed};
 use crate::act;
 use stage::Answer;
@@ -123,7 +123,7 @@ fn apply(
     indices: &mut [u32],
     runs: &mut [u32],
 ) -> Answered
-    ensures { λ r. ⌜ outcome r (areasOf (now (matrices .exit)) (now (viewports .exit)) (now (scales .exit)) (now (lights .exit)) (now (lookats .exit)) (now (fogs .exit)) (now (floats .exit)) (now (words .exit)) (now (indices .exit)) (now (runs .exit))) ≡ applyBy c (now («data» .entry)) (record { state = state; areas = areasOf (now (matrices .entry)) (now (viewports .entry)) (now (scales .entry)) (now (lights .entry)) (now (lookats .entry)) (now (fogs .entry)) (now (floats .entry)) (now (words .entry)) (now (indices .entry)) (now (runs .entry)) }) ⌝ }
+    ensures { λ r. ⌜ outcome r (areasOf (now (matrices .exit)) (now (viewports .exit)) (now (scales .exit)) (now (lights .exit)) (now (lookats .exit)) (now (fogs .exit)) (now (floats .exit)) (now (words .exit)) (now (indices .exit)) (now (runs .exit))) ≡ acted (actOf c (now («data» .entry))) (record { state = state; areas = areasOf (now (matrices .entry)) (now (viewports .entry)) (now (scales .entry)) (now (lights .entry)) (now (lookats .entry)) (now (fogs .entry)) (now (floats .entry)) (now (words .entry)) (now (indices .entry)) (now (runs .entry)) }) ⌝ }
 {
     let op = c.op;
     let a = c.args;

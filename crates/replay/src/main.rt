@@ -2,9 +2,10 @@
 ghost use mathlib.Core.Path.{_≡_};
 ghost use Prim.Native.Nat.{_≤_};
 ghost use lib.ListN.{length};
-ghost use Rattle.trace.specs.Header.{Within};
+ghost use Rattle.trace.specs.Header.{lengthsOf, Within};
 ghost use Rattle.player.specs.Ops.{areasOf};
 ghost use Rattle.player.specs.Play.{portOf, played};
+ghost use Rattle.player.specs.Replay.{replayed};
 use dump::show;
 use stage::State;
 use trace::rooms::Lengths;
@@ -64,9 +65,41 @@ fn play(
     g.state
 }
 
+// Dumps what the script s leaves, which its `requires` says; s serves that alone.
+fn finish(
+    s: &[u8],
+    state: State,
+    matrices: &[f32],
+    viewports: &[f32],
+    scales: &[f32],
+    lights: &[f32],
+    lookats: &[f32],
+    fogs: &[i16],
+    floats: &[f32],
+    words: &[u32],
+    indices: &[u32],
+    runs: &[u32],
+)
+    requires { ⌜ portOf state (areasOf (now matrices) (now viewports) (now scales) (now lights) (now lookats) (now fogs) (now floats) (now words) (now indices) (now runs)) ≡ replayed (now s) ⌝ }
+{
+    dump::dump::write(
+        state,
+        matrices,
+        viewports,
+        scales,
+        lights,
+        lookats,
+        fogs,
+        floats,
+        words,
+        indices,
+        runs,
+    );
+}
+
 // Makes the areas, each number 7, runs the script over them, and dumps what is left.
 fn replay(s: &[u8], own: Lengths)
-    requires { ⌜ (44 ≤ length (now s)) × ((length (now s) ≤ 262144) × Within own) ⌝ }
+    requires { ⌜ (44 ≤ length (now s)) × ((length (now s) ≤ 262144) × (Within own × (own ≡ lengthsOf (now s)))) ⌝ }
 {
     let mut matrices = [7.0f32; trace::rooms::MATRICES];
     let mut viewports = [7.0f32; trace::rooms::VIEWPORTS];
@@ -102,7 +135,8 @@ fn replay(s: &[u8], own: Lengths)
         &mut indices[..n8],
         &mut runs[..n9],
     );
-    dump::dump::write(
+    finish(
+        s,
         state,
         &matrices[..n0],
         &viewports[..n1],

@@ -50,7 +50,7 @@ returns-4 : tie.Need-returns-4
 returns-4 c = search needs
 
 replay-requires : tie.Need-replay-requires
-replay-requires c κs = (omega arith, (omega arith, within _ (sym (c .before .served .ensures) ∙ not-false _ (c .if4 .left))))
+replay-requires c κs = (omega arith, (omega arith, (within _ (sym (c .before .served .ensures) ∙ not-false _ (c .if4 .left)), c .before .before .lengths-of .ensures)))
 
 returns-5 : tie.Need-returns-5
 returns-5 c = search needs
