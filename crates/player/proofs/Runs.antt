@@ -10,13 +10,13 @@ use lib.Dec.{eqb, ltb}
 use lib.IntN.{pos}
 use lib.Ieee.{Float}
 use borrow.Author.Tests.{eqb-true, ne-eqb}
-use Rattle.areas.proofs.Tables.{length-write}
 use Rattle.numbers.specs.Choice.{pick}
 use Rattle.stage.specs.declared.State.{State}
 use Rattle.stage.specs.declared.Counts.{Counts}
-use Rattle.stage.specs.Plan.{Edit, keep, grow, patch, Edits, Area, Plan, refuse, does, after, afterIn, Outcome, carry, matrixArea, viewportArea, scaleArea, lightArea, lookatArea, fogArea, floatArea, wordArea, indexArea, runArea}
+use Rattle.stage.specs.Plan.{Edits, Area, Plan, refuse, does, afterIn, Outcome, carry, matrixArea, viewportArea, scaleArea, lightArea, lookatArea, fogArea, floatArea, wordArea, indexArea, runArea}
 use Rattle.stage.specs.Opening.{blank, openingPlan, areas12}
 use Rattle.sequence.specs.Sequence.{Command, Areas, Port, book, afterAll, result, step, run, with12, opening}
+use Rattle.sequence.proofs.Held.{length-after}
 use Rattle.trace.specs.declared.rooms.Lengths.{Lengths}
 use Rattle.trace.specs.declared.script.Call.{Call}
 use Rattle.trace.specs.Acts.{lengthList, lentAfter, writtenTo}
@@ -136,12 +136,7 @@ whole-step c d p h = ap written (ap by (lesser-is l) ∙ ap over (firsts-is l) �
 
 -- of one area, by a command's edits
 length-in : {A : Type 0} (k : Area A) (c : Counts) (e : Edits) (l : List A) → length (afterIn k c e l) ≡ length l
-length-in {A} k c e l = by (k .edit e)
-  where
-    by : (x : Edit (List A)) → length (after (k .width) (k .count c) x l) ≡ length l
-    by keep = refl
-    by (grow es) = length-write (k .width) (k .count c) es l
-    by (patch i u) = length-write (k .width) i (u ∷ []) l
+length-in k c e l = length-after (k .width) (k .count c) (k .edit e) l
 
 -- of all, by a plan
 sizes-carried : (q : Plan) (s : State) (l : Areas) → sizes (carry afterAll q s l .areas) ≡ sizes l

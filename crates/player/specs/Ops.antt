@@ -1,8 +1,8 @@
 -- What an op of a trace does: its command, as sequences have it, or an act of the driver's own. Definitions only.
 use Prim.Native.Nat.{ℕ, _%_, min}
 use mathlib.Core.Path.{_≡_}
-use mathlib.Core.Bool.{Bool, true, false}
-use mathlib.Core.List.{List, [], _∷_, _++_}
+use mathlib.Core.Bool.{false}
+use mathlib.Core.List.{List, [], _++_}
 use lib.ListN.{length, take, drop}
 use lib.Dec.{eqb}
 use lib.IntN.{ℤ}

@@ -8,7 +8,6 @@ use Rattle.matrix.specs.Clip.{codeOf, depthOf}
 use Rattle.layout.specs.Layout.{entryAt, tripleAt, viewportAt, vertexAt}
 use Rattle.areas.specs.Area.{put, write, matches}
 use Rattle.decide.specs.Family.{texgenMode}
-use Rattle.decide.specs.Steps.{firstShort}
 use Rattle.numbers.specs.Choice.{pick, all}
 use Rattle.fold.specs.Fog.{find}
 use Rattle.fold.specs.Scales.{sameScale}

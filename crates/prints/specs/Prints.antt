@@ -6,8 +6,8 @@ use mathlib.Core.List.{List, [], _∷_, _++_}
 use Prim.Native.Nat.{ℕ}
 use lib.ListN.{replicate, getD}
 use lib.IntN.{ℤ, pos, negsuc}
-use lib.Ieee.{Float, binary32, binary64, toBits}
-use Rattle.numbers.specs.Ratio.{signed, ofRatio, isRatio}
+use lib.Ieee.{Float, binary32, toBits}
+use Rattle.numbers.specs.Ratio.{ofRatio, isRatio}
 use Rattle.numbers.specs.Sqrt.{sqrt}
 use Rattle.matrix.specs.Math.{at}
 use Rattle.decide.specs.Lights.{lightNumber}

@@ -30,7 +30,7 @@ counted-more (patch i e) n = sym (add-zero n)
 
 module _ {A : Type 0} (w n : ℕ) where
   -- an edit leaves the area's length
-  length-after : (ed : Edit (List A)) (l : List A) → length (after w n ed l) ≡ length l
+  pub length-after : (ed : Edit (List A)) (l : List A) → length (after w n ed l) ≡ length l
   length-after keep l = refl
   length-after (grow es) l = length-write w n es l
   length-after (patch i e) l = length-write w i (e ∷ []) l
