@@ -8,7 +8,8 @@ use lib.ListN.{length, getD, length-replicate}
 use lib.Dec.{leb}
 use borrow.Author.Tests.{leb-true}
 use Rattle.areas.specs.Area.{room}
-use Rattle.areas.specs.Widths.{matrixWidth, viewportWidth}
+use Rattle.areas.specs.Widths.{matrixWidth, viewportWidth, indexWidth}
+use Rattle.areas.proofs.Tables.{length-entries}
 use Rattle.decide.specs.declared.family.Family.{Family}
 use Rattle.change.specs.declared.Asked.{Asked}
 use Rattle.change.specs.declared.Asked.the-variants.{Known, Unknown}
@@ -251,22 +252,32 @@ module _ (F : ℕ → Family) (limit : State → ℕ) where
     unfolding book
     settings-are l o cs = after-inv l o cs .settings
 
+    -- no index is in use after an opening that is refused
+    refused-empty : (l : Areas) → opening l ≡ record { state = blank false; areas = l } → (cs : List Command) → length (book (after (plan F limit) l cs) .drawing .indices .used) ≡ 0
+    unfolding book
+    refused-empty l e cs = length-entries indexWidth _ _ ∙ refused-none l e cs .0
+
     -- EACH INDEX IN USE IS HELD BY ONE RUN IN USE, and by no other
-    pub one-run : (l : Areas) → Opens l → (cs : List Command) (i : ℕ) → let k = book (after (plan F limit) l cs) in i < length (k .drawing .indices .used) → OneRun (k .drawing .runs .used) i
-    one-run l o cs i h = tiled-one 0 _ _ (after-inv l o cs .ties .standing .tiled) i (omega arith) h
+    pub one-run : (l : Areas) (cs : List Command) (i : ℕ) → let k = book (after (plan F limit) l cs) in i < length (k .drawing .indices .used) → OneRun (k .drawing .runs .used) i
+    one-run l cs i h =
+        by-opening (OneRun (book (after (plan F limit) l cs) .drawing .runs .used) i) l (λ o. tiled-one 0 _ _ (after-inv l o cs .ties .standing .tiled) i (omega arith) h)
+        (λ e. absurd (omega (arith, refused-empty l e cs)))
 
     -- THE RUN OF A TRIANGLE IS A FACT: one run has its three indices, no other has one of them, and the triangle shows its settings
-    pub own-run : (l : Areas) → Opens l → (cs : List Command) (n : ℕ) → n < recorded (after (plan F limit) l cs) → RunOf (book (after (plan F limit) l cs)) n
+    pub own-run : (l : Areas) (cs : List Command) (n : ℕ) → n < recorded (after (plan F limit) l cs) → RunOf (book (after (plan F limit) l cs)) n
     unfolding triangleOf
-    own-run l o cs n h =
+    own-run l cs n h =
         let k : Book = book (after (plan F limit) l cs) in
+        by-opening (RunOf k n) l
+        (λ o.
         let S = after-inv l o cs .ties .standing in
         let low : 3 * n + 3 ≤ length (k .drawing .indices .used) = omega (arith, h, recorded-is l cs, S .count) in
         record {
           run = own (k .drawing .runs .used) (length (k .drawing .indices .used)) (S .tiled) n low;
           held = own-held (k .drawing .runs .used) (length (k .drawing .indices .used)) (S .tiled) n low;
           settings = own-settings (k .drawing .runs .used) (length (k .drawing .indices .used)) (S .tiled) n low;
-        }
+        })
+        (λ e. absurd (omega (arith, refused-none l e cs .0)))
 
     -- WHAT AN ACCEPTED DRAW GIVES THE BENCH: the three slots' values and its settings, behind what it gave before
     pub when-drawn : (cs : List Command) (a b c material mode colour prim : ℕ) → let h = bench F cs (bench0 seats) in
