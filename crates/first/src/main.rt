@@ -1,10 +1,11 @@
-// A first program over the stage: `main` is a list of commands, each a small function over what is lent, which says the
-// answer and hands the state back. A refusal hands it back as it was.
+// A first program over the stage: `main` is a list of commands, each sent by a small function over what is lent, which says
+// the answer and hands the state back. A refusal hands it back as it was.
 use libc::STDOUT_FILENO;
 use stage::Answer;
+use stage::Answered;
 use stage::State;
 
-// Matrix flags, bits of the geometry mode, and an attribute of modify.
+// Matrix flags, bits of the geometry mode, and an attribute of modify, by this program's own names.
 const LOAD: u8 = 2;
 
 const KEEP_ALL: u32 = 0xffff_ffff;
@@ -49,32 +50,27 @@ fn said(command: &[u8], a: Answer) {
     }
 }
 
-fn opening(matrices: &mut [f32; 64], viewports: &mut [f32; 12]) -> State {
-    let r = State::opening(matrices, viewports);
+// Says the answer, and hands the state on.
+fn heard(command: &[u8], r: Answered) -> State {
     let a = r.answer;
-    said(b"opening", a);
+    said(command, a);
     r.state
+}
+
+fn opening(matrices: &mut [f32; 64], viewports: &mut [f32; 12]) -> State {
+    heard(b"opening", State::opening(matrices, viewports))
 }
 
 fn matrix(s: State, flags: u8, data: &[u8; 64], matrices: &mut [f32; 64]) -> State {
-    let r = s.matrix(flags, data, 0, matrices);
-    let a = r.answer;
-    said(b"matrix", a);
-    r.state
+    heard(b"matrix", s.matrix(flags, data, 0, matrices))
 }
 
 fn viewport(s: State, data: &[u8; 16], viewports: &mut [f32; 12]) -> State {
-    let r = s.set_viewport(data, 0, viewports);
-    let a = r.answer;
-    said(b"viewport", a);
-    r.state
+    heard(b"viewport", s.set_viewport(data, 0, viewports))
 }
 
 fn geometry(s: State, off: u32, on: u32) -> State {
-    let r = s.modify_geometry_mode(off, on);
-    let a = r.answer;
-    said(b"geometry mode", a);
-    r.state
+    heard(b"geometry mode", s.modify_geometry_mode(off, on))
 }
 
 fn load(
@@ -103,31 +99,20 @@ fn load(
         floats,
         words,
     );
-    let a = r.answer;
-    said(b"load", a);
-    r.state
+    heard(b"load", r)
 }
 
 fn cull_test(s: State, first: u32, last: u32) -> State {
-    let r = s.cull_display_list(first, last);
-    let a = r.answer;
-    said(b"cull test", a);
-    r.state
+    heard(b"cull test", s.cull_display_list(first, last))
 }
 
 fn depth_test(s: State, slot: u32, threshold: u32) -> State {
-    let r = s.branch_z(slot, threshold);
-    let a = r.answer;
-    said(b"depth test", a);
-    r.state
+    heard(b"depth test", s.branch_z(slot, threshold))
 }
 
 // The caller's four numbers are a material, 7, and nothing else.
 fn draw(s: State, i: u32, j: u32, k: u32, indices: &mut [u32; 30], runs: &mut [u32; 16]) -> State {
-    let r = s.draw_tri(i, j, k, 7, 0, 0, 0, indices, runs);
-    let a = r.answer;
-    said(b"draw", a);
-    r.state
+    heard(b"draw", s.draw_tri(i, j, k, 7, 0, 0, 0, indices, runs))
 }
 
 fn modify(
@@ -139,10 +124,10 @@ fn modify(
     floats: &mut [f32; 90],
     words: &mut [u32; 100],
 ) -> State {
-    let r = s.modify_vertex(slot, attribute, value, scales, floats, words);
-    let a = r.answer;
-    said(b"modify", a);
-    r.state
+    heard(
+        b"modify",
+        s.modify_vertex(slot, attribute, value, scales, floats, words),
+    )
 }
 
 fn ink_count(
@@ -152,10 +137,16 @@ fn ink_count(
     words: &[u32; 100],
     indices: &[u32; 30],
 ) -> State {
-    let r = s.ink_count(colour, floats, words, indices);
-    let a = r.answer;
-    said(b"ink count", a);
-    r.state
+    heard(b"ink count", s.ink_count(colour, floats, words, indices))
+}
+
+// The colour word of a row: the fifth of its ten numbers.
+fn colour_of(words: &[u32; 100], row: u32) -> u32 {
+    if row < 10 {
+        words[(row * 10 + 4) as usize]
+    } else {
+        0
+    }
 }
 
 // The identity: 1 on the diagonal of the whole parts, which are 16 bits each.
@@ -234,4 +225,8 @@ fn main() {
     one(b"indices in use: ", s.counts.indices);
     one(b"runs in use: ", s.counts.runs);
     one(b"material of the first run: ", runs[0]);
+    one(
+        b"colour word of slot 1's row: ",
+        colour_of(&words, s.row[1]),
+    );
 }
