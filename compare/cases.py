@@ -1,7 +1,8 @@
-"""Twelve cases and the limits as traces, each with lines that the rules ask of the output."""
+"""Thirteen cases and the limits as traces, each with lines that the rules ask of the output."""
 import struct
 
 import bytes_of
+import model
 import tracefile
 from tracefile import WIDTHS, Op
 
@@ -43,6 +44,9 @@ def pushes(n):
 
 START = [op("open"), op("matrix", 2, data=IDENTITY)]
 CORNERS = START + [load(0, (0, 0, 1)), load(1, (0, 0, 1)), load(2, (0, 0, 1))]
+# Lit, with one light, and loaded; then the lighting bit turned over, and back.
+LIGHTED = START + [op("lightnum", 24), op("light", 0, data=bytes(range(11))), op("geom", 0, 0x20000), load(0, (0, 0, 1))]
+OVER, BACK = (0xFFFDFFFF, 0), (0xFFFFFFFF, 0x20000)
 # name: commands after which the output has these lines; the areas are ROOMY unless said.
 CASES = {
     "01-entries": (START + [op("force", data=bytes_of.matrix([1.5, -0.5, 32767 + 65535 / 65536] + [0] * 13))],
@@ -69,6 +73,10 @@ CASES = {
                       ["4 depth 0 1", "5 depth 0 0", "slot 0 0 1 0 0 " + F64(1022.0)]),
     "12-draw-twice": (CORNERS + [op("draw", 0, 1, 2, *DRAW), op("modify", 1, 0x10, 5), op("draw", 0, 1, 2, *DRAW)],
                       [f"t8 {k} {row}" for k, row in enumerate((0, 1, 2, 0, 3, 2))] + ["t9 0 0 0 0 0 0 0 0 6", "slot 1 3 1 1 0 " + F64(0.0)]),
+    "13-over-and-back": (LIGHTED + [op("geom", *OVER), op("geom", *BACK), load(1, (0, 0, 1))],
+                         ["counts 1 1 1 4 0 0 2 0 0", "state 1 131072 0 1 0 0 0 0 0 0 0 1"]),
+    "13-joined": (LIGHTED + [op("geom", *model.joined(OVER, BACK)), load(1, (0, 0, 1))],
+                  ["counts 1 1 1 2 0 0 2 0 0", "state 1 131072 0 1 0 0 0 0 0 0 0 1"]),
     "load-256-from-0": (START + [many(0, 256)], ["2 load 0 0", "counts 1 1 1 0 0 0 256 0 0"]),
     "load-256-from-1": (START + [many(1, 256)], ["2 load 1 256 1", "counts 1 1 0 0 0 0 0 0 0"]),
     "load-0-from-256": (START + [many(256, 0)], ["2 load 0 0", "counts 1 1 1 0 0 0 0 0 0"]),

@@ -49,7 +49,7 @@ EDITS = (
      "return all(bits32(x) == bits32(y) for x, y in zip(a, b))", "equal by bits"),
     (MODEL, "return all(x == y for x, y in zip(a, b))",
      "return all(x == y or x != x and y != y for x, y in zip(a, b))", "NaN equal to NaN"),
-    (MODEL, "s.geom = (old & args[0]) | args[1]", "s.geom = (old | args[1]) & args[0]", "geometry: on before off"),
+    (MODEL, "return (old & off) | on", "return (old | on) & off", "geometry: on before off"),
     (MODEL, "if (old ^ s.geom) & LIGHTING:", "if False:", "lighting switched: lights not changed"),
     (MODEL, "if (old ^ s.geom) & LIGHTING:", "if old ^ s.geom:", "any bit switched: lights changed"),
     (MODEL, "min(7, args[0] // 24)", "min(8, args[0] // 24)", "light number 8"),

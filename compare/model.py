@@ -244,9 +244,18 @@ def do_pop(s, areas, args, data):
     return ()
 
 
+def geometry_after(off, on, old):
+    return (old & off) | on
+
+
+def joined(first, second):
+    """Two mode words in a row, each off and on, as one."""
+    return first[0] & second[0], (first[1] & second[0]) | second[1]
+
+
 def do_geom(s, areas, args, data):
     old = s.geom
-    s.geom = (old & args[0]) | args[1]
+    s.geom = geometry_after(*args, old)
     if (old ^ s.geom) & LIGHTING:
         s.light_fold.changed = True
     return ()

@@ -1,8 +1,7 @@
--- The rules of the model stack and of the geometry mode word. Definitions only.
+-- The rules of the model stack, and when a geometry mode word relights. Definitions only.
 use Prim.Native.Nat.{ℕ, _+_, _-_, max}
 use mathlib.Core.Bool.{Bool, not, _&&_, Bool·beq}
 use mathlib.Core.List.{List}
-use lib.Bits.{bitAnd, bitOr}
 use lib.Dec.{ltb}
 use lib.Ieee.{Float}
 use Rattle.numbers.specs.Choice.{pick}
@@ -21,10 +20,6 @@ pushed push depth = pick (push && ltb depth 32) (depth + 1) depth
 -- the depth after count pops, never below 1
 unfoldable pub popped : ℕ → ℕ → ℕ
 popped count depth = max 1 (depth - count)
-
--- the geometry mode word: (old AND off) OR on
-abbrev pub geometryAfter : ℕ → ℕ → ℕ → ℕ
-geometryAfter off on old = bitOr (bitAnd old off) on
 
 -- the lighting bit differs
 unfoldable pub relit : Family → ℕ → ℕ → Bool

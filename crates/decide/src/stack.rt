@@ -1,4 +1,4 @@
-// The model stack and the geometry mode word.
+// The model stack, and when a geometry mode word relights.
 ghost use mathlib.Core.Path.{_≡_};
 ghost use Prim.Native.Nat.{_+_, _-_, _*_, _≤_};
 ghost use Rattle.numbers.specs.Choice.{pick};
@@ -6,7 +6,7 @@ ghost use Rattle.areas.specs.Area.{put};
 ghost use Rattle.areas.specs.Widths.{matrixWidth};
 ghost use Rattle.matrix.specs.Math.{rows, laid, times};
 ghost use Rattle.decide.specs.Family.{flag};
-ghost use Rattle.decide.specs.Stack.{made, pushed, popped, geometryAfter, relit};
+ghost use Rattle.decide.specs.Stack.{made, pushed, popped, relit};
 use crate::family::Family;
 use areas::widths::MATRIX_WIDTH;
 
@@ -142,13 +142,6 @@ pub fn take(
         projection: p,
         product: product,
     }
-}
-
-// The geometry mode word: (old AND off) OR on.
-pub fn geometry_after(off: u32, on: u32, old: u32) -> u32
-    ensures { λ r. ⌜ r ≡ geometryAfter off on old ⌝ }
-{
-    (old & off) | on
 }
 
 // Whether the lighting bit differs between two words.

@@ -9,7 +9,8 @@ use lib.ListN.{length, getD}
 use lib.Dec.{eqb, ltb}
 use lib.Ieee.{Float}
 use Rattle.decide.specs.declared.family.Family.{Family}
-use Rattle.decide.specs.Stack.{popped, geometryAfter, relit}
+use Rattle.mode.specs.Word.{geometryAfter}
+use Rattle.decide.specs.Stack.{popped, relit}
 use Rattle.layout.specs.Layout.{matrixAt}
 use Rattle.matrix.specs.Math.{rows, laid}
 use Rattle.triangle.specs.Run.{settings}

@@ -13,7 +13,8 @@ use Rattle.layout.specs.declared.records.Light.{Light}
 use Rattle.layout.specs.Layout.{colourAt, lightAt}
 use Rattle.decide.specs.declared.family.Family.{Family}
 use Rattle.decide.specs.Family.{lit, texgenMode}
-use Rattle.decide.specs.Stack.{made, pushed, geometryAfter, relit}
+use Rattle.mode.specs.Word.{geometryAfter}
+use Rattle.decide.specs.Stack.{made, pushed, relit}
 use Rattle.decide.specs.Lights.{slotted}
 use Rattle.fold.specs.Decision.{refold}
 use Rattle.stage.specs.Plan.{pick}

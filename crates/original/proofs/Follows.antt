@@ -3,7 +3,8 @@ use mathlib.Core.Path.{_≡_, refl, sym, ap, ap₂, _∙_, subst}
 use Prim.Native.Nat.{ℕ}
 use mathlib.Core.Bool.{false, cond, false≢true}
 use mathlib.Core.List.{List, [], _∷_}
-use Rattle.decide.specs.Stack.{geometryAfter, relit}
+use Rattle.mode.specs.Word.{geometryAfter}
+use Rattle.decide.specs.Stack.{relit}
 use Rattle.decide.specs.Family.{f3dex2, familyOf}
 use Rattle.stage.specs.Sound.{limit}
 use Rattle.stage.specs.declared.State.{State}

@@ -12,7 +12,8 @@ use lib.Ieee.{Float}
 use borrow.Author.Tests.{leb-true, ne-eqb}
 use Rattle.decide.specs.Family.{f3dex2, familyOf}
 use Rattle.decide.specs.Lights.{slotted}
-use Rattle.decide.specs.Stack.{geometryAfter, relit}
+use Rattle.mode.specs.Word.{geometryAfter}
+use Rattle.decide.specs.Stack.{relit}
 use Rattle.layout.specs.Layout.{colourAt, directionAt, lightAt}
 use Rattle.matrix.specs.Math as math
 use Rattle.stage.specs.declared.Lights.{Lights}

@@ -13,7 +13,8 @@ use Rattle.areas.specs.Widths.{matrixWidth, viewportWidth}
 use Rattle.matrix.specs.Math as math
 use Rattle.matrix.specs.Math.{rows, laid, identity as identity′}
 use Rattle.decide.specs.Family.{f3dex2, familyOf}
-use Rattle.decide.specs.Stack.{geometryAfter, relit}
+use Rattle.mode.specs.Word.{geometryAfter}
+use Rattle.decide.specs.Stack.{relit}
 use Rattle.numbers.specs.Choice.{all}
 use Rattle.stage.specs.declared.settings.Microcode.{Microcode}
 use Rattle.stage.specs.declared.settings.Microcode.the-variants.{F3dex2, F3dex2NoN}

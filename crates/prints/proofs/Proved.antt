@@ -1,4 +1,4 @@
--- The twelve cases, proved as a single table: each row by computation of the definitions that the contracts cite. Assumes nothing.
+-- The thirteen cases, proved as a single table: each row by computation of the definitions that the contracts cite. Assumes nothing.
 use mathlib.Core.Path.{refl}
 use lib.Ieee.{toBits, add, mul, div, neg, lt, le, eq, ne}
 use Rattle.numbers.specs.Ratio.{ofRatio, isRatio}
@@ -8,6 +8,7 @@ use Rattle.matrix.specs.Clip.{codeOf, depthOf}
 use Rattle.layout.specs.Layout.{entryAt, tripleAt, viewportAt, vertexAt}
 use Rattle.areas.specs.Area.{put, write, matches}
 use Rattle.decide.specs.Family.{texgenMode}
+use Rattle.decide.specs.Stack.{relit}
 use Rattle.numbers.specs.Choice.{pick, all}
 use Rattle.fold.specs.Fog.{find}
 use Rattle.fold.specs.Scales.{sameScale}
@@ -17,7 +18,7 @@ use Rattle.stage.specs.Plan.{unless, carry, appended, appending}
 use Rattle.stage.specs.Sound.{stateSound}
 use Rattle.stage.specs.Opening.{blank, openingPlan}
 use Rattle.stage.specs.Opening as opening
-use Rattle.stage.specs.Matrices.{viewing, viewportPlan}
+use Rattle.stage.specs.Matrices.{viewing, viewportPlan, geometryPlan}
 use Rattle.stage.specs.Load.{settled, settledState, sharedBy, loadEdits, loadPlan}
 use Rattle.stage.specs.Rows.{fillSlot, fillSlots}
 use Rattle.stage.specs.Modify.{asking, changed, changePlan, modifyPlan, moved}
@@ -28,7 +29,7 @@ use Rattle.triangle.specs.Slot.{held}
 use Rattle.prints.specs.Prints.{Prints, viewed, load, modify, drawn, load0, load1, load2, draw1, modify1, draw2}
 
 pub prints : Prints
-unfolding viewed load modify drawn load0 load1 load2 draw1 modify1 draw2 asking changed changePlan modifyPlan cullPlan depthPlan runEdit drawPlan decoded floatsAfter wordsAfter depthAfter appends moved closed sameRun held le ofRatio isRatio entryAt tripleAt viewportAt sqrt toBits rowTimes codeOf depthOf vertexAt put write matches texgenMode pick find sameScale refold floatsOf wordsOf clipOf slotAt slotOf verticesAt unless carry appended appending all stateSound blank openingPlan opening.opened viewing viewportPlan settled settledState sharedBy loadEdits loadPlan fillSlot fillSlots times rows laid add mul div neg lt ne
+unfolding viewed load modify drawn load0 load1 load2 draw1 modify1 draw2 asking changed changePlan modifyPlan cullPlan depthPlan runEdit drawPlan decoded floatsAfter wordsAfter depthAfter appends moved closed sameRun held le ofRatio isRatio entryAt tripleAt viewportAt sqrt toBits rowTimes codeOf depthOf vertexAt put write matches texgenMode pick find sameScale refold floatsOf wordsOf clipOf slotAt slotOf verticesAt unless carry appended appending all stateSound blank openingPlan opening.opened viewing viewportPlan geometryPlan relit settled settledState sharedBy loadEdits loadPlan fillSlot fillSlots times rows laid add mul div neg lt ne
 prints =
     record {
       begins = (refl, refl);
@@ -44,4 +45,5 @@ prints =
       case10 = (((refl, refl), (refl, refl), (refl, refl)), (refl, refl));
       case11 = (((refl, refl), (refl, refl), refl, refl), ((refl, refl), (refl, refl)));
       case12 = (((refl, refl), (refl, refl), (refl, refl), (refl, refl), (refl, refl), (refl, refl)), (refl, refl, refl));
+      case13 = (((refl, refl), (refl, refl), (refl, refl)), (refl, refl), (refl, refl), (refl, refl));
     }

@@ -1,4 +1,4 @@
--- Twelve cases of the rules as one table, a row for each. A case that goes through commands says the number and the values
+-- Thirteen cases of the rules as one table, a row for each. A case that goes through commands says the number and the values
 -- of each one's answer. `prints` of proofs/Proved.antt proves it whole.
 use mathlib.Core.Path.{_≡_}
 use mathlib.Core.Bool.{true, false}
@@ -10,12 +10,15 @@ use lib.Ieee.{Float, binary32, toBits}
 use Rattle.numbers.specs.Ratio.{ofRatio, isRatio}
 use Rattle.numbers.specs.Sqrt.{sqrt}
 use Rattle.matrix.specs.Math.{at}
+use Rattle.mode.specs.declared.ModeWord.{ModeWord}
+use Rattle.mode.specs.Word.{joined}
+use Rattle.decide.specs.Family.{familyOf}
 use Rattle.decide.specs.Lights.{lightNumber}
 use Rattle.stage.specs.declared.State.{State}
 use Rattle.stage.specs.Plan.{Outcome, carry, viewportArea, tableIn, nothing}
 use Rattle.stage.specs.Sound.{limit}
 use Rattle.stage.specs.Opening.{zeros, blank, openingPlan, areas12}
-use Rattle.stage.specs.Matrices.{viewportPlan, area2}
+use Rattle.stage.specs.Matrices.{viewportPlan, geometryPlan, area2}
 use Rattle.stage.specs.Load.{loadAreas, LoadAreas, loadMeans}
 use Rattle.stage.specs.Modify.{modifyMeans}
 use Rattle.stage.specs.Draw.{cullPlan, depthPlan, drawMeans}
@@ -133,6 +136,23 @@ modify1 = modify (draw1 .state) (load2 .areas) 1 0x10 0
 unfoldable pub draw2 : Outcome (List ℕ × List ℕ)
 draw2 = drawn (modify1 .state) (draw1 .areas)
 
+-- a geometry mode by a mode word
+abbrev pub moded : State → ModeWord → Outcome (Unit {0})
+moded s w = carry nothing (geometryPlan (familyOf (s .microcode)) s (w .off) (w .on)) s tt
+
+-- the lighting bit turned over by one mode word, after opening, and back by a second; and the two joined
+abbrev pub over : ModeWord
+over = record { off = 0xFFFFFFFF; on = 0x00020000 }
+
+abbrev pub back : ModeWord
+back = record { off = 0xFFFDFFFF; on = 0 }
+
+abbrev pub inTurn : Outcome (Unit {0})
+inTurn = moded (moded opened over .state) back
+
+abbrev pub asOne : Outcome (Unit {0})
+asOne = moded opened (joined over back)
+
 pub record Prints : Type 0 where
   -- what the cases of commands begin with
   pub begins : Done opening
@@ -160,3 +180,5 @@ pub record Prints : Type 0 where
   pub case11 : (Done viewed × Tells deep 1 × (getD (deep .state .deep) 0 false ≡ true) × Is (at (deep .state .z) 0) (pos 1022) 1) × (Tells (near (deep .state) 66977792) 1 × Tells (near (deep .state) 66977791) 0)
   -- 12. three loads, draw 0 1 2, modify slot 1, draw again: indices 0 1 2 0 3 2, one run of 6
   pub case12 : (Tells load0 1 × Tells load1 1 × Tells load2 1 × Done draw1 × Done modify1 × Done draw2) × ((draw2 .areas .0 ≡ 0 ∷ 1 ∷ 2 ∷ 0 ∷ 3 ∷ 2 ∷ []) × (draw2 .areas .1 ≡ 0 ∷ 0 ∷ 0 ∷ 0 ∷ 0 ∷ 0 ∷ 0 ∷ 6 ∷ []) × (draw2 .state .counts .runs ≡ 1))
+  -- 13. the lighting bit turned over and back: the two mode words leave the word 0 and mark lights changed; the joined one leaves the word 0, and no mark
+  pub case13 : (Done (moded opened over) × Done inTurn × Done asOne) × ((opened .geometry ≡ 0) × (opened .lights .changed ≡ false)) × ((inTurn .state .geometry ≡ 0) × (inTurn .state .lights .changed ≡ true)) × ((asOne .state .geometry ≡ 0) × (asOne .state .lights .changed ≡ false))

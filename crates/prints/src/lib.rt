@@ -1,1 +1,1 @@
-// Twelve cases of the rules: the table stands in specs/Prints.antt, its proof in proofs/Proved.antt. No code.
+// Thirteen cases of the rules: the table stands in specs/Prints.antt, its proof in proofs/Proved.antt. No code.

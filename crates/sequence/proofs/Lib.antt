@@ -10,3 +10,4 @@ pub mod Joined
 pub mod Spelled
 pub mod Placed
 pub mod Only
+pub mod Merged

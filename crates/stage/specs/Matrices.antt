@@ -12,7 +12,8 @@ use Rattle.stage.specs.declared.State.{State}
 use Rattle.stage.specs.declared.Counts.{Counts}
 use Rattle.decide.specs.declared.family.Family.{Family}
 use Rattle.decide.specs.Family.{flag}
-use Rattle.decide.specs.Stack.{made, pushed, popped, geometryAfter, relit}
+use Rattle.mode.specs.Word.{geometryAfter}
+use Rattle.decide.specs.Stack.{made, pushed, popped, relit}
 use Rattle.stage.specs.Plan.{Table, Edit, keep, Edits, Plan, does, pick, lent, judge, appending, needs, untouched, undrawn, matrixArea, viewportArea, afterIn}
 use Rattle.stage.specs.Sound.{sound}
 use Rattle.stage.specs.With.{withGeometry, withModel, withProjection, withCombined, withViewport, withLights, marked}

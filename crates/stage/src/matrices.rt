@@ -342,7 +342,7 @@ impl State {
         let sound = self.sound();
         if sound {
             let old = self.geometry;
-            let new = decide::stack::geometry_after(off, on, old);
+            let new = mode::geometry_after(off, on, old);
             let changed = self.lights.changed | decide::stack::relights(family, old, new);
             self.geometry = new;
             self.lights.changed = changed;
