@@ -10,6 +10,7 @@ edge (areas that fit exactly or lack one number).
 The same kind, seed and size make the same bytes.
 """
 import argparse
+import functools
 import pathlib
 import random
 import sys
@@ -279,6 +280,17 @@ def domain(rng, size, seed):
 
 
 # Numbers from bytes.
+
+def twins(seed, join=model.joined, size=20):
+    """A domain trace that ends in a row of mode words, and one that ends in what they are joined to."""
+    m = comparable(random.Random(f"twins {seed}"))
+    play(m, len(m.ops) + size, PLAIN)
+    shared = m.ops[:]
+    for _ in range(m.rng.randrange(2, 7)):
+        m.geom()
+    one = functools.reduce(join, [op.args for op in m.ops[len(shared):]], (ALL, 0))
+    return m.script(), tracefile.write(m.lengths, shared + [Op("geom", list(one), None)])
+
 
 def swept(start, n):
     """n bytes from start on, each one more than the last."""
