@@ -1,9 +1,10 @@
 #!/usr/bin/env python3
-"""loops.py DIR: writes the four programs that ./bench times, load, draw, modify and mix, to DIR/NAME/main.rt.
+"""loops.py DIR: writes the four programs that ./bench times, load, draw, modify and mix, and root, which speed/root counts, to DIR/NAME/main.rt.
 
 Each reads speed/data.py's bytes, runs its loop over the stage for the number of batches told there, each from a new opening, and prints what the
 last batch left: counts, and the sums of floats (by their bits), words, indices and runs, and how many of the batches' last answers were refusals.
 They have no contract and are not proved: they are measured, and what they measure is. speed/rust/main.rs has the same loops over the original.
+Root reads a count and 4,096 floats by their bits, and prints the sum of the bits of the roots of as many of them.
 """
 import pathlib
 import sys
@@ -160,8 +161,31 @@ BODIES = {
 """,
 }
 
+ROOT = """// The square root, to be counted. See speed/loops.py.
+use libc::STDOUT_FILENO;
+
+fn word(s: &[u8], at: usize) -> u32 {
+    (s[at] as u32) + (s[at + 1] as u32) * 256 + (s[at + 2] as u32) * 65536 + (s[at + 3] as u32) * 16777216
+}
+
+fn main() {
+    let mut bytes = [0u8; 16388];
+    let mut floats = [0.0f32; 4096];
+    io::read_full(libc::STDIN_FILENO, &mut bytes);
+    for i in 0..4096 {
+        floats[i] = f32::from_bits(word(&bytes, 4 + 4 * i));
+    }
+    let mut h: u32 = 0;
+    for i in 0..word(&bytes, 0) as usize {
+        h = std::num::wrapping_add_u32(h, f32::to_bits(numbers::sqrt::sqrt_f32(floats[i])));
+    }
+    io::print_decimal(STDOUT_FILENO, h as u64);
+    io::write_all(STDOUT_FILENO, b"\\n");
+}
+"""
+
 if __name__ == "__main__":
-    for name, body in BODIES.items():
+    for name, text in {**{name: HEAD + body + TAIL for name, body in BODIES.items()}, "root": ROOT}.items():
         file = pathlib.Path(sys.argv[1], name, "main.rt")
         file.parent.mkdir(parents=True, exist_ok=True)
-        file.write_text(HEAD + body + TAIL)
+        file.write_text(text)

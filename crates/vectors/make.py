@@ -4,6 +4,8 @@
     python3 crates/vectors/make.py           writes both files, the same bytes each time
     python3 crates/vectors/make.py --list    prints the vectors to read: function, arguments, answer
     python3 crates/vectors/make.py --count   prints how many vectors each function has
+    python3 crates/vectors/make.py --kinds   prints how many of the stored ones are of each kind of KINDS, for the functions that round a root or a
+                                             fraction; an error where there is none of a kind
 
 Each answer is calculated here with whole numbers and fractions alone, from what the documents say and not from the code
 under test. No float of Python's takes part: a float is a sign and a fraction, read from its bits by `value` and written
@@ -584,12 +586,96 @@ def vectors():
     return [(f, ws) for f in FUNCTIONS for ws in arguments[f.name]]
 
 
+# ---- what kinds of arguments the stored vectors have
+
+ROUNDED = ["held exactly", "a tie, to the even number below", "a tie, to the even number above", "just below a tie", "just above a tie", "rounded, no such case"]
+KINDS = {
+    "sqrt_f32": ["NaN", "+infinity", "-infinity", "+0", "-0", "subnormal below 0", "normal below 0", "subnormal above 0", "normal above 0", "exact root",
+                 "beside an exact root", "root just below a middle", "root just above a middle"],
+    "by_67108864": ROUNDED,
+    "matrix_entry": ROUNDED + ["whole part below 0", "marked exact", "not marked exact"],
+}
+
+
+def root_scaled(x):
+    """The size of x, above 0, in squared steps of its root, and the whole part of the root in steps."""
+    u = unit(SINGLE, exponent(x.size) // 2)
+    n = x.size / (u * u)
+    return n, isqrt(n.numerator // n.denominator)
+
+
+def is_square(b):
+    x = single(b)
+    if x.kind != "fin" or x.negative or x.size == 0:
+        return False
+    n, q = root_scaled(x)
+    return q * q == n
+
+
+def root_kinds(ws):
+    """A middle, q + 1/2 steps, is no f32's root: that would be the root of q * q + q + 1/4. So `just below` and `just above` stand for a tie and its
+    neighbours: of less than 25 squared steps from a middle's square, of some 2^47."""
+    x = single(ws[0])
+    sign = "-" if x.negative else "+"
+    if x.kind == "nan":
+        return ["NaN"]
+    if x.kind == "inf" or x.size == 0:
+        return [sign + ("infinity" if x.kind == "inf" else "0")]
+    out = [("subnormal" if x.size < power(SINGLE.low) else "normal") + (" below 0" if x.negative else " above 0")]
+    if not x.negative:
+        n, q = root_scaled(x)
+        apart = n - Fraction((2 * q + 1) ** 2, 4)
+        out += ["exact root"] * is_square(ws[0]) + ["beside an exact root"] * (is_square(ws[0] - 1) or is_square(ws[0] + 1))
+        out += ["root just below a middle"] * (-25 < apart < 0) + ["root just above a middle"] * (0 < apart < 25)
+    return out
+
+
+def rounded_kinds(parts, size):
+    """Of the fraction `size`, a whole number of `parts`: how it lies between two neighbours."""
+    if size == 0:
+        return ["held exactly"]
+    u = unit(SINGLE, exponent(size))
+    q, rest = divmod(size / u, 1)
+    apart = (rest - HALF) * u / parts
+    return [{0: ROUNDED[1 + q % 2], -1: ROUNDED[3], 1: ROUNDED[4]}.get(apart, ROUNDED[5]) if rest else ROUNDED[0]]
+
+
+def entry_kinds(ws):
+    whole = with_sign(16, ws[0])
+    marked = matrix_entry(ws).endswith("yes")
+    return rounded_kinds(Fraction(1, 65536), abs(Fraction(whole * 65536 + ws[1], 65536))) + ["whole part below 0"] * (whole < 0) + [
+        "marked exact" if marked else "not marked exact"]
+
+
+def stored():
+    """Each stored vector as a function and its words."""
+    with open(os.path.join(os.path.dirname(os.path.abspath(__file__)), "stdin"), "rb") as script:
+        left = script.read()
+    while left:
+        f = FUNCTIONS[left[0] - 1]
+        yield f, [int.from_bytes(left[1 + 4 * k:5 + 4 * k], "little") for k in range(f.words)]
+        left = left[1 + 4 * f.words:]
+
+
+def kinds():
+    ways = {"sqrt_f32": root_kinds, "by_67108864": lambda ws: rounded_kinds(Fraction(1, 2 ** 26), Fraction(ws[0], 2 ** 26)), "matrix_entry": entry_kinds}
+    count = Counter((f.name, kind) for f, ws in stored() if f.name in ways for kind in ways[f.name](ws))
+    for name, wanted in KINDS.items():
+        for kind in wanted:
+            print("%6d %s: %s" % (count[name, kind], name, kind))
+    missing = [f"{name}: {kind}" for name, wanted in KINDS.items() for kind in wanted if not count[name, kind]]
+    if missing:
+        sys.exit("no vector of " + ", of ".join(missing))
+
+
 def record(f, ws):
     assert len(ws) == f.words and all(0 <= w < 2 ** 32 for w in ws)
     return bytes([FUNCTIONS.index(f) + 1]) + b"".join(w.to_bytes(4, "little") for w in ws)
 
 
 def main(wish):
+    if wish == "--kinds":
+        return kinds()
     made = vectors()
     if wish == "--count":
         for name, count in Counter(f.name for f, _ in made).items():
