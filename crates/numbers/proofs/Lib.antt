@@ -1,5 +1,6 @@
 pub mod Values
 pub mod Quotients
+pub mod Sums
 pub mod Losses
 pub mod Parts
 pub mod Halves

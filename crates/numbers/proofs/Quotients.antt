@@ -23,7 +23,7 @@ use Rattle.numbers.specs.Ratio.{below0, ofRatio}
 use Rattle.numbers.proofs.Values.{value-unique, no-size, placed}
 
 -- the same size as another fraction
-rescale : (x : Float) (s : Bool) (w l a c : ℕ) → 0 < l → a * l ≡ w * c → HasValue x s w l → HasValue x s a c
+pub rescale : (x : Float) (s : Bool) (w l a c : ℕ) → 0 < l → a * l ≡ w * c → HasValue x s w l → HasValue x s a c
 rescale nan s w l a c p h v = v
 rescale (inf t) s w l a c p h v = v
 rescale (fin t m e) s w l a c p h v = (
@@ -88,7 +88,8 @@ div-small f z q g d h D y =
     ∙ ap (round f s n) (one-mul d)
 
 -- ---- a rounded fraction, divided by 2 ^ t
-round-val : (f : Format) (s : Bool) (a c : ℕ) → grid f a c < overflow f → HasValue (round f s a c) s (grid f a c) (2 ^ low f)
+-- what a fraction rounds to, counted in the format's smallest values
+pub round-val : (f : Format) (s : Bool) (a c : ℕ) → grid f a c < overflow f → HasValue (round f s a c) s (grid f a c) (2 ^ low f)
 round-val f s a c h = subst (λ (z : Float). HasValue z s (grid f a c) (2 ^ low f)) (sym (round-is f s a c)) (units-val f s (kept (prec f) (a * 2 ^ low f) c) (drop (prec f) (a * 2 ^ low f) c) h)
 
 down-le : (g p : ℕ) → 0 < p → g ≤ g * p
@@ -122,16 +123,21 @@ kept-le p n den =
     let u = den * 2 ^ k in
     le-trans (nearest-le (n / u) (compare (n % u * 2) u)) (subst (λ (x : ℕ). x < 2 ^ p) (div-div-eq-div-mul n den (2 ^ k)) (kept-lt p (n / den)))
 
+-- a fraction of fewer than 2 ^ 181 smallest values does not overflow
+pub under-top : (a c : ℕ) → a * 2 ^ 149 / c < 2 ^ 181 → grid binary32 a c < overflow binary32
+under-top a c h =
+    let w = a * 2 ^ 149 in
+    lt-of-le-of-lt (mul-le-mul (kept-le 24 w c) (pow-mono (spare (size (w / c)) (size-le (w / c) 181 h)))) (lit< tt)
+  where
+    spare : (z : ℕ) → z ≤ 181 → z - 24 ≤ 157
+    spare z h = omega arith
+
 in-range : (n t : ℕ) → n < 2 ^ 32 → grid binary32 (n * 2 ^ t) (1 * 2 ^ t) < overflow binary32
 in-range n t h =
     let w = n * 2 ^ t * 2 ^ 149 in
     let u = 1 * 2 ^ t in
     let e : w / u ≡ n * 2 ^ 149 = ap (λ (x : ℕ). x / u) (mul-right-comm n (2 ^ t) (2 ^ 149) ∙ ap (λ (x : ℕ). n * 2 ^ 149 * x) (sym (one-mul (2 ^ t)))) ∙ mul-div-cancel (n * 2 ^ 149) (mul-pos (zero-lt-suc 0) (pow-pos t)) in
-    let k : drop 24 w u ≤ 157 = spare (size (w / u)) (size-le (w / u) 181 (subst (λ (x : ℕ). x < 2 ^ 181) (sym e) (shl-lt 32 149 h))) in
-    lt-of-le-of-lt (mul-le-mul (kept-le 24 w u) (pow-mono k)) (lit< tt)
-  where
-    spare : (z : ℕ) → z ≤ 181 → z - 24 ≤ 157
-    spare z h = omega arith
+    under-top (n * 2 ^ t) u (subst (λ (x : ℕ). x < 2 ^ 181) (sym e) (shl-lt 32 149 h))
 
 shift-down : (s : Bool) (n t : ℕ) → 0 < n → n < 2 ^ 32 → t ≤ 126 → div binary32 (round binary32 s n 1) (fin false 1 (pos t)) ≡ round binary32 s n (2 ^ t)
 shift-down s n t N h T' =

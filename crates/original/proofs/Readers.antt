@@ -1,5 +1,5 @@
 -- The original's readers of bytes and of words give what the stage's definitions give, wherever the read lies inside the bytes. Assumes nothing.
-use mathlib.Core.Path.{_≡_, refl, sym, ap, _∙_, subst}
+use mathlib.Core.Path.{_≡_, refl, sym, ap, _∙_}
 use Prim.Native.Nat.{ℕ, _+_, _-_, _*_, _/_, _%_, _^_, _≤_, _<_}
 use native.Mathlib.Nat.{le-trans, le-of-lt, lt-of-le-of-lt, lt-of-lt-of-le, mod-eq-of-lt, mul-assoc, mul-comm, mul-one, one-mul, add-assoc}
 use native.Mathlib.Omega.{arith}
@@ -14,12 +14,11 @@ use lib.Ieee.{Float, nan, inf, fin, Format, binary32, binary64, up, down, round,
 use lib.Ieee.Fits.{down-pos}
 use lib.Ieee.Exact.{HasValue, round-exact}
 use lib.Ieee.Scale.{round-same}
-use mir.Syntax.{w16, w32}
-use mir.Val.{Fits, SFits}
-use mir.ValLaws.{toZ-ofZ}
+use mir.Syntax.{w16}
+use mir.Val.{SFits}
 use Rattle.numbers.specs.Ratio.{signed, ofRatio, parts, entry}
 use Rattle.numbers.proofs.Halves.{signed-low, signed-high}
-use Rattle.numbers.proofs.Parts.{sum-fits, sum-read}
+use Rattle.numbers.proofs.Parts.{parts-small}
 use Rattle.numbers.proofs.Quotients.{div-small, div-shift}
 use Rattle.layout.specs.Layout.{byteAt, halfAt, wordAt, signedAt, ratioAt, entryAt, rowAt, matrixAt, vertexAt, tripleAt, colourAt, axisAt, directionAt}
 use Rattle.change.specs.Decoded.{reversed, highBy, lowBy}
@@ -88,11 +87,8 @@ ratio-same b i t hb hl h k = ap (λ (n : ℕ). div binary32 (ofInt binary32 (as-
 pub entry-same : (n x : ℕ) → n < 65536 → x < 65536 → div binary32 (ofInt binary32 (parts (as-i16 n) x)) (fin false 1 (pos 16)) ≡ entry (signed 16 n) x
 entry-same n x h k =
     let a : SFits w16 (signed 16 n) = record { sfits = signed-below 16 n refl h } in
-    let c : Fits w16 x = record { fits = k } in
-    let s = sum-fits (signed 16 n) x a c in
-    let fits : SFits w32 (parts (signed 16 n) x) = subst (λ (z : ℤ). SFits w32 z) (sym (toZ-ofZ w32 _ s) ∙ sum-read (signed 16 n) x a c) s in
     ap (λ (z : ℤ). div binary32 (ofInt binary32 (parts z x)) (fin false 1 (pos 16))) (i16-same n)
-    ∙ div-shift (ofInt binary32 (parts (signed 16 n) x)) (parts (signed 16 n) x) 16 refl (lt-of-le-of-lt (natAbs-le (parts (signed 16 n) x) (fits .sfits)) (lit< tt)) (lit≤ tt)
+    ∙ div-shift (ofInt binary32 (parts (signed 16 n) x)) (parts (signed 16 n) x) 16 refl (parts-small (signed 16 n) x a k) (lit≤ tt)
 
 -- cell k, at either form of its place
 pub cell-same : (b : List ℕ) (at k : ℕ) → Bytes b → length b ≤ 16777216 → at + 64 ≤ length b → k < 16 → cell b at k ≡ entryAt b at k
