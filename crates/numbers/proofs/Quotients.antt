@@ -92,6 +92,7 @@ div-small f z q g d h D y =
 pub round-val : (f : Format) (s : Bool) (a c : ℕ) → grid f a c < overflow f → HasValue (round f s a c) s (grid f a c) (2 ^ low f)
 round-val f s a c h = subst (λ (z : Float). HasValue z s (grid f a c) (2 ^ low f)) (sym (round-is f s a c)) (units-val f s (kept (prec f) (a * 2 ^ low f) c) (drop (prec f) (a * 2 ^ low f) c) h)
 
+-- a product is no smaller than its first factor
 down-le : (g p : ℕ) → 0 < p → g ≤ g * p
 down-le g p h = le-trans (le-of-eq (sym (mul-one g))) (mul-le-mul (le-refl g) h)
 
@@ -132,6 +133,7 @@ under-top a c h =
     spare : (z : ℕ) → z ≤ 181 → z - 24 ≤ 157
     spare z h = omega arith
 
+-- a number of 32 bits does not overflow
 in-range : (n t : ℕ) → n < 2 ^ 32 → grid binary32 (n * 2 ^ t) (1 * 2 ^ t) < overflow binary32
 in-range n t h =
     let w = n * 2 ^ t * 2 ^ 149 in
@@ -139,6 +141,7 @@ in-range n t h =
     let e : w / u ≡ n * 2 ^ 149 = ap (λ (x : ℕ). x / u) (mul-right-comm n (2 ^ t) (2 ^ 149) ∙ ap (λ (x : ℕ). n * 2 ^ 149 * x) (sym (one-mul (2 ^ t)))) ∙ mul-div-cancel (n * 2 ^ 149) (mul-pos (zero-lt-suc 0) (pow-pos t)) in
     under-top (n * 2 ^ t) u (subst (λ (x : ℕ). x < 2 ^ 181) (sym e) (shl-lt 32 149 h))
 
+-- a number of 32 bits, rounded and then divided by 2 ^ t, is the fraction rounded once
 shift-down : (s : Bool) (n t : ℕ) → 0 < n → n < 2 ^ 32 → t ≤ 126 → div binary32 (round binary32 s n 1) (fin false 1 (pos t)) ≡ round binary32 s n (2 ^ t)
 shift-down s n t N h T' =
     scaled-down binary32 s n 1 t (zero-lt-suc 0)
