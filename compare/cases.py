@@ -96,6 +96,8 @@ TIGHT = {
     "no-run": (entries(9, 0), CORNERS + [op("draw", 0, 1, 2, *DRAW)], ["5 draw 9 9", "slot 1 1 1 0 0 " + F64(0.0)]),
     "unit-scale-short": (entries(3, 1), CORNERS + [op("draw", 0, 0, 0, *DRAW), op("modify", 0, 0x14, 0)],
                          ["6 modify 9 3", "counts 1 1 1 0 0 0 3 3 1"]),
+    "lent-past-the-end": (entries(8, 3), CORNERS + [op("lend", 8, 6), op("draw", 0, 1, 2, *DRAW), op("draw", 0, 1, 2, *DRAW)],
+                          ["6 draw 0", "7 draw 9 8"]),
     "no-matrix": (entries(1, 0), [op("open"), op("pop", 0)], ["0 open 9 1", "1 pop 10", "open 0"]),
     "no-viewport": (entries(2, 0), [op("open"), op("geom", 0, 0)], ["0 open 9 2", "1 geom 10", "open 0"]),
 }
@@ -178,12 +180,32 @@ ORDER = {
        for name, poked in (("closed", (0, 0, 0)), ("depth-0", (1, 0, 0)), ("depth-33", (1, 0, 33)), ("lights-8", (2, 0, 8)),
                            ("no-matrix", (3, 1, 0)), ("no-viewport", (3, 2, 0)), *((f"table-{t}", (3, t, 1048577)) for t in range(1, 10)))},
 }
-ALL = {**{name: (ROOMY, *case) for name, case in (CASES | ORDER).items()}, **TIGHT}
+# Numbers that are no area's, places outside those that take numbers, and what DRAWN leaves.
+BEYOND = (10, 11, 12, 13, 0xFFFFFFFF)
+OUTSIDE = [op("write", a, place, 1) for a in tracefile.WRITTEN for place in (ROOMY[a], 0xFFFFFFFF)]
+UNTOUCHED = ["counts 1 1 1 0 0 0 3 3 1", "state 1 0 0 1 0 0 0 0 0 0 0 0", f"area 5 {model.area_hash([7] * ROOMY[5])}",
+             f"area 8 {model.area_hash([0, 1, 2] + [7] * (ROOMY[8] - 3))}"]
+# Acts of the driver: most name nothing, and change nothing.
+ACTS = {
+    "second-header": (CORNERS + short(*BEYOND) + [op("pop", 0), op("draw", 0, 1, 2, *DRAW), op("write", 12, 0, 1), op("lend", 12, 1024),
+                                                  op("ink", 0x04030201)],
+                      ["5 lend 0", "6 lend 0", "7 lend 0", "10 pop 0", "11 draw 0", "12 write 0", "13 lend 0", "14 ink 0 3", *UNTOUCHED]),
+    "write-not-lent": (DRAWN + short(8) + [op("write", 8, 1, 2), op("write", 8, 59, 1)], ["7 write 0", "8 write 0", "t8 1 2"]),
+    "writes-to-nothing": (DRAWN + OUTSIDE + [op("write", a, 0, 1) for a in (0, 1, 2, 3, 4, 6, *BEYOND)] + [op("ink", 0x04030201)],
+                          ["6 write 0", "25 ink 0 3", *UNTOUCHED]),
+    "pokes-of-nothing": (DRAWN + [op("poke", *p) for p in ((5, 0, 9), (0xFFFFFFFF, 0, 9), (3, 0, 9), (3, 10, 9), (3, 0xFFFFFFFF, 9))] +
+                         [op("ink", 0x04030201)], ["6 poke 0", "11 ink 0 3", *UNTOUCHED]),
+    "pokes-by-low-bits": (DRAWN + [op("poke", 0, 0, 2), op("geom", 0, 0), op("poke", 0, 0, 3), op("geom", 0, 0), op("poke", 4, 0x103, 2),
+                                   op("draw", 3, 3, 3, *DRAW)], ["7 geom 10", "9 geom 0", "11 draw 0", "t8 3 2", "slot 3 2 0 1 - -"]),
+}
+ALL = {**{name: (ROOMY, *case) for name, case in (CASES | ORDER | ACTS).items()}, **TIGHT}
+# Under GST2: the word of requests, the lengths past the areas'.
+SECOND = {name: (1 << 1 | 1 << 5 | 1 << 9, (512, 2304, 1024)) for name in ("second-header",)}
 
 
 def scripts():
     """Pairs of a name and a script."""
-    return {name: tracefile.write(lengths, ops) for name, (lengths, ops, _) in ALL.items()}
+    return {name: tracefile.write(lengths, ops, *SECOND.get(name, ())) for name, (lengths, ops, _) in ALL.items()}
 
 
 def missing(name, output):

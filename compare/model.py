@@ -52,6 +52,14 @@ class Areas:
             self.numbers[a][k * w:k * w + w] = values[:w]
             values = values[w:]
 
+    def lend(self, area, length):
+        if area < len(self.lent):
+            self.lent[area] = min(length, len(self.numbers[area]))
+
+    def write(self, area, place, value):
+        if area in tracefile.WRITTEN and place < len(self.numbers[area]):
+            self.numbers[area][place] = signed(value) if area == tracefile.I16_AREA else value
+
 
 class Slot:
     def __init__(self):
@@ -513,15 +521,16 @@ COMMANDS = {name[3:]: body for name, body in list(globals().items()) if name.sta
 
 def poke(s, field, index, value):
     if field == 0:
-        s.opened = bool(value)
+        s.opened = value % 2 == 1
     elif field == 1:
         s.depth = value
     elif field == 2:
         s.light_count = value
-    elif field == 3:
+    elif field == 3 and 1 <= index <= 9:
         s.counts[index] = value
     elif field == 4:
-        s.slots[index].row, s.slots[index].ever = value, True
+        slot = s.slots[index % 256]
+        slot.row, slot.ever = value, True
 
 
 class Driver:
@@ -548,10 +557,9 @@ class Driver:
         if op.name == "mark":
             return self.state.counts[1:]
         if op.name == "lend":
-            self.areas.lent[op.args[0]] = op.args[1]
+            self.areas.lend(*op.args)
         elif op.name == "write":
-            area, place, value = op.args
-            self.areas.numbers[area][place] = signed(value) if area == tracefile.I16_AREA else value
+            self.areas.write(*op.args)
         else:
             poke(self.state, *op.args)
         return ()

@@ -39,11 +39,20 @@ def words(op):
     return f"{text} [{len(op.data)}] " + (reading(op.data) if len(op.data) >= least else op.data.hex())
 
 
+def header(script):
+    """The requests that a header names, if it is of a kind that does, and the areas."""
+    requests, lengths = tracefile.read_header(tracefile.Reader(script))
+    for word in requests:
+        yield "requests " + (" ".join(f"P{k + 1}" for k in range(32) if word >> k & 1) or "none")
+    areas = [f"{n // w}*{w}" + (f"+{n % w}" if n % w else "") for n, w in zip(lengths, tracefile.WIDTHS)]
+    yield " ".join(["areas", *areas, *(f"({n})" for n in lengths[len(areas):])])
+
+
 def show(path):
     with open(path, "rb") as f:
-        lengths, ops = tracefile.read(f.read())
-    print(path)
-    print("areas " + " ".join(f"{n // w}*{w}" + (f"+{n % w}" if n % w else "") for n, w in zip(lengths, tracefile.WIDTHS)))
+        script = f.read()
+    _, ops = tracefile.read(script)
+    print(path, *header(script), sep="\n")
     for k, op in enumerate(ops):
         print(k, words(op))
 

@@ -1,13 +1,16 @@
 """The trace format: reading a script into commands, and writing commands into a script."""
 import struct
 
-MAGIC = b"GST1"
+# Letters of a header: how many words of requests follow, a bit for each request, and how many lengths.
+# Of GST2 the requests and the lengths past the areas' are not looked at.
+HEADERS = {b"GST1": (0, 10), b"GST2": (1, 13)}
 WIDTHS = (16, 6, 4, 6, 6, 2, 9, 10, 1, 8)          # numbers per entry, by area
 F32_AREAS = (0, 1, 2, 3, 4, 6)
 I16_AREA = 5
+WRITTEN = (5, 7, 8, 9)                             # where `write` stores
 # Which areas hold the entries of table 1..9.
 TABLE_AREAS = {1: (0,), 2: (1,), 3: (2,), 4: (3,), 5: (4,), 6: (5,), 7: (6, 7), 8: (8,), 9: (9,)}
-BOUNDS = (8192, 3072, 4096, 24576, 6144, 1024, 36864, 40960, 12288, 16384)
+BOUNDS = (8192, 3072, 4096, 24576, 6144, 1024, 36864, 45056, 12288, 16384)
 MOST_BYTES = 262144
 
 # op: name, names of the arguments, whether data follows
@@ -45,8 +48,8 @@ class Op:
         self.name, self.args, self.data = name, args, data
 
 
-class Cut(Exception):
-    """The script ends inside an argument."""
+class Cut(ValueError):
+    """The script ends inside an argument or the header."""
 
 
 class Reader:
@@ -77,16 +80,22 @@ def read_op(reader):
         return None
 
 
+def read_header(reader):
+    """(words of requests, lengths), as many as the letters say."""
+    letters = reader.take(4)
+    if letters not in HEADERS:
+        raise ValueError("not a trace")
+    return tuple([reader.u32() for _ in range(n)] for n in HEADERS[letters])
+
+
 def read(script):
     """(lengths of the ten areas, commands)."""
     reader = Reader(script)
-    if reader.take(4) != MAGIC:
-        raise ValueError("not a trace")
-    lengths = [reader.u32() for _ in WIDTHS]
+    _, lengths = read_header(reader)
     ops = []
     while (op := read_op(reader)) is not None:
         ops.append(op)
-    return lengths, ops
+    return lengths[:len(WIDTHS)], ops
 
 
 def put(op):
@@ -98,6 +107,7 @@ def put(op):
     return out + struct.pack("<I", len(op.data)) + op.data if has_data else out
 
 
-def write(lengths, ops):
-    """The script of a trace."""
-    return MAGIC + struct.pack("<10I", *lengths) + b"".join(put(op) for op in ops)
+def write(lengths, ops, requests=None, others=(0, 0, 0)):
+    """The script of a trace; under GST2, with the other lengths, where a word of requests is given."""
+    letters, words = (b"GST1", lengths) if requests is None else (b"GST2", [requests, *lengths, *others])
+    return letters + struct.pack(f"<{len(words)}I", *words) + b"".join(put(op) for op in ops)

@@ -175,12 +175,20 @@ fn step(o: &mut Original, script: &mut Script) -> Option<(&'static str, String)>
     })
 }
 
+/// Passes over the header, of which nothing is for the original; None where there is none.
+fn header(script: &mut Script) -> Option<()> {
+    match script.take(4)? {
+        b"GST1" => script.numbers::<10>().map(drop),
+        b"GST2" => script.numbers::<14>().map(drop),
+        _ => None,
+    }
+}
+
 fn main() {
     let mut bytes = Vec::new();
     std::io::stdin().read_to_end(&mut bytes).expect("a script");
     let mut script = Script(&bytes);
-    assert_eq!(script.take(4), Some(b"GST1".as_slice()), "not a trace");
-    script.numbers::<10>().expect("the areas' lengths");
+    header(&mut script).expect("a trace's header");
     let mut original = Original::new(false);
     let mut out = String::new();
     let mut k = 0;
