@@ -1,4 +1,4 @@
-"""Thirteen cases and the limits as traces, each with lines that the rules ask of the output."""
+"""Fifteen cases and the limits as traces, each with lines that the rules ask of the output."""
 import struct
 
 import bytes_of
@@ -17,12 +17,12 @@ def op(name, *args, data=None):
     return Op(name, list(args), data)
 
 
-def vertices(*points):
-    return b"".join(struct.pack(">6h4B", *p, 0, 0, 0, 1, 2, 3, 4) for p in points)
+def vertices(*points, colour=(1, 2, 3, 4)):
+    return b"".join(struct.pack(">6h4B", *p, 0, 0, 0, *colour) for p in points)
 
 
-def load(first, *points):
-    return op("load", first, len(points), data=vertices(*points))
+def load(first, *points, colour=(1, 2, 3, 4)):
+    return op("load", first, len(points), data=vertices(*points, colour=colour))
 
 
 def many(first, count):
@@ -47,6 +47,9 @@ CORNERS = START + [load(0, (0, 0, 1)), load(1, (0, 0, 1)), load(2, (0, 0, 1))]
 # Lit, with one light, and loaded; then the lighting bit turned over, and back.
 LIGHTED = START + [op("lightnum", 24), op("light", 0, data=bytes(range(11))), op("geom", 0, 0x20000), load(0, (0, 0, 1))]
 OVER, BACK = (0xFFFDFFFF, 0), (0xFFFFFFFF, 0x20000)
+# A corner without light, the same word under the ambient light alone, a word of zeros there; drawn and counted.
+HALF_LIT = [op("open"), load(0, (0, 0, 0)), op("geom", 0, 0x20000), load(1, (0, 0, 0)), load(2, (0, 0, 0), colour=(0, 0, 0, 0)),
+            op("draw", 0, 1, 2, *DRAW), op("ink", 0x04030201), op("ink", 0)]
 # name: commands after which the output has these lines; the areas are ROOMY unless said.
 CASES = {
     "01-entries": (START + [op("force", data=bytes_of.matrix([1.5, -0.5, 32767 + 65535 / 65536] + [0] * 13))],
@@ -77,6 +80,11 @@ CASES = {
                          ["counts 1 1 1 4 0 0 2 0 0", "state 1 131072 0 1 0 0 0 0 0 0 0 1"]),
     "13-joined": (LIGHTED + [op("geom", *model.joined(OVER, BACK)), load(1, (0, 0, 1))],
                   ["counts 1 1 1 2 0 0 2 0 0", "state 1 131072 0 1 0 0 0 0 0 0 0 1"]),
+    "14-lit-and-unlit": (HALF_LIT, ["6 ink 0 1", "7 ink 0 0"] +
+                         [f"t7 {k} " + " ".join([F32(0.0)] * 9) + f" 0 0 0 0 {word} 0 {lights} 0 0 0"
+                          for k, (word, lights) in enumerate(((0x04030201, 0), (0x04030201, 1), (0, 1)))]),
+    "15-recoloured": (HALF_LIT + [op("modify", 1, 0x10, 0x01020304), op("draw", 1, 1, 1, *DRAW), op("ink", 0x04030201)],
+                      ["6 ink 0 1", "10 ink 0 4", "t7 3 " + " ".join([F32(0.0)] * 9) + " 0 0 0 0 67305985 0 0 0 0 0"]),
     "load-256-from-0": (START + [many(0, 256)], ["2 load 0 0", "counts 1 1 1 0 0 0 256 0 0"]),
     "load-256-from-1": (START + [many(1, 256)], ["2 load 1 256 1", "counts 1 1 0 0 0 0 0 0 0"]),
     "load-0-from-256": (START + [many(256, 0)], ["2 load 0 0", "counts 1 1 1 0 0 0 0 0 0"]),
@@ -106,6 +114,11 @@ TIGHT = {
 def short(*areas):
     """Nothing lent of these areas."""
     return [op("lend", a, 0) for a in areas]
+
+
+def first_light(row, first, count):
+    """The caller's own numbers for the lights of a row."""
+    return [op("write", 7, 10 * row + 5, first), op("write", 7, 10 * row + 6, count)]
 
 
 def far_away(column):
@@ -163,6 +176,10 @@ ORDER = {
                   ["8 ink 8 7", "10 ink 8 8", "12 ink 0 3"]),
     "ink-beyond-rows": (DRAWN + [op("write", 8, 1, 5), op("ink", 7), op("ink", 0x04030201), op("poke", 3, 7, 2), op("ink", 0x04030201)],
                         ["7 ink 0 0", "8 ink 0 2", "10 ink 0 1"]),
+    "ink-first-light": (LIGHTED + [op("light", 1, data=bytes(3)), load(1, (0, 0, 1)), op("geom", *OVER), load(2, (0, 0, 1)),
+                                   op("draw", 0, 1, 2, *DRAW), op("ink", 0x04030201), *first_light(1, 3, 0), op("ink", 0x04030201),
+                                   *first_light(2, 0, 3), op("ink", 0x04030201)],
+                        ["11 ink 0 1", "14 ink 0 2", "17 ink 0 1", "counts 1 1 1 4 0 0 3 3 1"]),
     "others-not-judged": (DRAWN + short(1, 8, 9) + [load(0, (0, 0, 1)), op("pop", 0), op("modify", 0, 0x10, 0), *short(*range(10)), op("lend", 8, 60),
                                                     op("lend", 9, 64), op("draw", 0, 1, 2, *DRAW), op("lend", 9, 0), op("lend", 6, 90), op("lend", 7, 90),
                                                     op("ink", 0), op("lend", 7, 0), op("lend", 0, 16), op("force", data=IDENTITY), op("pop", 0),
@@ -200,7 +217,7 @@ ACTS = {
 }
 ALL = {**{name: (ROOMY, *case) for name, case in (CASES | ORDER | ACTS).items()}, **TIGHT}
 # Under GST2: the word of requests, the lengths past the areas'.
-SECOND = {name: (1 << 1 | 1 << 5 | 1 << 9, (512, 2304, 1024)) for name in ("second-header",)}
+SECOND = {name: (1 << 1 | 1 << 5 | 1 << 9, (512, 2304, 1024)) for name in ("14-lit-and-unlit", "15-recoloured", "second-header")}
 
 
 def scripts():

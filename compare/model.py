@@ -508,10 +508,15 @@ def do_ucode(s, areas, args, data):
     return ()
 
 
+def inked(row, colour):
+    """Whether a row has this colour: where it has lights, its colour word is a normal."""
+    return row[15] == 0 and row[13] == colour
+
+
 def do_ink(s, areas, args, data):
     judge_lent(s, areas, 7, 8)
     rows = [areas.entry(8, k)[0] for k in range(s.counts[8])]
-    return (sum(1 for r in rows if r < s.counts[7] and areas.entry(7, r)[13] == args[0]),)
+    return (sum(1 for r in rows if r < s.counts[7] and inked(areas.entry(7, r), args[0])),)
 
 
 COMMANDS = {name[3:]: body for name, body in list(globals().items()) if name.startswith("do_")}

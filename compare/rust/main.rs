@@ -104,9 +104,11 @@ fn draw(o: &mut Original, n: [u32; 7]) -> String {
     "0".into()
 }
 
+/// The original has no such count: it is made from the scene's lists. A row with lights has a normal for its colour.
 fn ink(o: &Original, colour: u32) -> String {
-    let has = |row: &&u32| o.scene.cn.get(**row as usize) == Some(&colour);
-    format!("0 {}", o.scene.indices.iter().filter(has).count())
+    let s = &o.scene;
+    let inked = |row: usize| s.cn.get(row) == Some(&colour) && s.light_count.get(row) == Some(&0);
+    format!("0 {}", s.indices.iter().filter(|row| inked(**row as usize)).count())
 }
 
 fn done(_: ()) -> String {
