@@ -11,7 +11,7 @@ use lib.Dec.{eqb}
 use lib.Ieee.{Float, nan, inf, fin, eq}
 use lib.IntN.{ℤ, pos, negsuc, pos-ne-negsuc}
 use lib.ListN.{length, take, drop, getD, set, length-append, length-drop, length-set}
-use lib.Seq.{length-sets, sets-eq, length-take-le, take-add, take-at, drop-at, drop-drop, take-set-le, drop-set-lt, drop-set-add, getD-set-same, getD-set-other}
+use lib.Seq.{length-sets, sets-eq, length-take-le, take-add, take-at, drop-at, drop-drop, take-set-le, drop-set-lt, drop-set-add, getD-set-same, getD-set-other, getD-take, getD-drop}
 use borrow.Author.Tests.{eq-eqb, eqb-true}
 use Rattle.areas.specs.Widths.{most}
 use Rattle.areas.specs.Area.{room, part, put, matches, entries, flat, Wide, write, eqbℤ}
@@ -134,6 +134,15 @@ module _ {A : Type 0} where
   entry-is w zero i l h = absurd (not-suc-le-zero h)
   entry-is w (suc n) zero l h = rw zero-mul
   entry-is w (suc n) (suc i) l h = rw (next-place i w, ← drop-drop) (entry-is w n i (drop w l) (le-of-suc-le-suc h))
+
+  -- number j of the part at a place
+  pub part-at : (l : List A) (at n j : ℕ) (d : A) → j < n → getD (part l at n) j d ≡ getD l (at + j) d
+  part-at l at n j d h = rw (getD-take n (drop at l) j d h, getD-drop at l j d)
+
+  -- one entry more is read
+  pub entries-more : (w n : ℕ) (l : List A) → entries w (suc n) l ≡ entries w n l ++ part l (n * w) w ∷ []
+  entries-more w zero l = rw zero-mul
+  entries-more w (suc n) l = rw (next-place n w, entries-more w n (drop w l), drop-drop)
 
   -- the last entry in use is the part of the area at its place
   pub last-entry : (w n : ℕ) (l : List A) → 0 < n → getD (entries w n l) (n - 1) [] ≡ part l ((n - 1) * w) w

@@ -1,4 +1,3 @@
 pub mod Accepted
-pub mod Inks
 pub mod Kept
 pub mod Storing

@@ -7,11 +7,11 @@ use mathlib.Core.Logic.{_≢_, _⊎_, inl, inr, ⊎-elim}
 use mathlib.Core.Path.{_≡_, refl, sym, _∙_}
 use mathlib.Core.List.{List, [], _∷_, _++_}
 use lib.ListN.{length, take, drop, getD, set, length-drop, length-set, take-append-drop}
-use lib.Seq.{length-take-le, set-set, set-comm, sets-eq, take-add, take-at, take-take, getD-take, getD-drop}
+use lib.Seq.{length-take-le, set-set, set-comm, sets-eq, take-add, take-at, take-take}
 use lib.Dec.{ltb}
 use borrow.Author.Tests.{ltb-true, ltb-false}
 use Rattle.areas.specs.Area.{part, put, write}
-use Rattle.areas.proofs.Tables.{length-put, take-put, drop-put, drop-put-add, write-one}
+use Rattle.areas.proofs.Tables.{length-put, take-put, drop-put, drop-put-add, write-one, part-at}
 
 -- two numbers that are not the same
 apart : (i t : ℕ) → i ≢ t → (i < t) ⊎ (t < i)
@@ -55,10 +55,6 @@ module _ {A : Type 0} where
   pub stored : {l : List A} {at n : ℕ} {m vs : List A} (j : ℕ) (v : A) → Stored l at n m vs → j < n → Stored l at n (set m (at + j) v) (set vs j v)
   stored {l} {at} {n} {m} {vs} j v s h =
       record { same = rw (s .same) (set-put l at vs j v (rw (s .long) h)); long = rw length-set (s .long) }
-
-  -- number j of the part at a place
-  pub part-at : (l : List A) (at n j : ℕ) (d : A) → j < n → getD (part l at n) j d ≡ getD l (at + j) d
-  part-at l at n j d h = rw (getD-take n (drop at l) j d h, getD-drop at l j d)
 
   -- the row's first number is read and stored at the place itself
   pub first : (l : List A) (at n : ℕ) (d : A) (f : A → A) → at + n ≤ length l → 0 < n → set l at (f (getD l at d)) ≡ put l at (set (part l at n) 0 (f (getD (part l at n) 0 d)))

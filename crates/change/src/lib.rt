@@ -1,12 +1,11 @@
 // A vertex row changed in place or in a copy: the change asked for, what it does to a row's numbers, and the judge that
-// stands before it. The ink of a row, which is its colour word, is counted here too.
+// stands before it.
 ghost use mathlib.Core.Path.{_≡_};
 ghost use Prim.Native.Nat.{_/_, _%_};
 ghost use lib.Ieee.{binary32};
 ghost use Rattle.numbers.specs.Ratio.{signed, ofRatio};
 ghost use Rattle.change.specs.Decoded.{reversed, decoded, depthAfter};
 
-pub mod ink;
 pub mod judge;
 pub mod remake;
 

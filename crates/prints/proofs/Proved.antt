@@ -1,4 +1,4 @@
--- The thirteen cases, proved as a single table: each row by computation of the definitions that the contracts cite. Assumes nothing.
+-- The fifteen cases, proved as a single table: each row by computation of the definitions that the contracts cite. Assumes nothing.
 use mathlib.Core.Path.{refl}
 use lib.Ieee.{toBits, add, mul, div, neg, lt, le, eq, ne}
 use Rattle.numbers.specs.Ratio.{ofRatio, isRatio}
@@ -11,6 +11,7 @@ use Rattle.decide.specs.Family.{texgenMode}
 use Rattle.decide.specs.Stack.{relit}
 use Rattle.numbers.specs.Choice.{pick, all}
 use Rattle.fold.specs.Fog.{find}
+use Rattle.fold.specs.Lights.{lightEntries, directional}
 use Rattle.fold.specs.Scales.{sameScale}
 use Rattle.fold.specs.Decision.{refold}
 use Rattle.vertex.specs.Vertices.{floatsOf, wordsOf, clipOf, slotAt, slotOf, verticesAt}
@@ -21,15 +22,16 @@ use Rattle.stage.specs.Opening as opening
 use Rattle.stage.specs.Matrices.{viewing, viewportPlan, geometryPlan}
 use Rattle.stage.specs.Load.{settled, settledState, sharedBy, loadEdits, loadPlan}
 use Rattle.stage.specs.Rows.{fillSlot, fillSlots}
-use Rattle.stage.specs.Modify.{asking, changed, changePlan, modifyPlan, moved}
+use Rattle.stage.specs.Modify.{asking, changed, changePlan, modifyPlan, moved, inkPlan}
 use Rattle.stage.specs.Draw.{cullPlan, depthPlan, runEdit, drawPlan}
 use Rattle.change.specs.Decoded.{decoded, floatsAfter, wordsAfter, depthAfter, appends}
+use Rattle.ink.specs.Ink.{inkOf}
 use Rattle.triangle.specs.Run.{closed, sameRun}
 use Rattle.triangle.specs.Slot.{held}
-use Rattle.prints.specs.Prints.{Prints, viewed, load, modify, drawn, load0, load1, load2, draw1, modify1, draw2}
+use Rattle.prints.specs.Prints.{Prints, viewed, load, modify, drawn, load0, load1, load2, draw1, modify1, draw2, loadUnlit, loadLit, drawLit, recolour, drawRecoloured, inkCount}
 
 pub prints : Prints
-unfolding viewed load modify drawn load0 load1 load2 draw1 modify1 draw2 asking changed changePlan modifyPlan cullPlan depthPlan runEdit drawPlan decoded floatsAfter wordsAfter depthAfter appends moved closed sameRun held le ofRatio isRatio entryAt tripleAt viewportAt sqrt toBits rowTimes codeOf depthOf vertexAt put write matches texgenMode pick find sameScale refold floatsOf wordsOf clipOf slotAt slotOf verticesAt unless carry appended appending all stateSound blank openingPlan opening.opened viewing viewportPlan geometryPlan relit settled settledState sharedBy loadEdits loadPlan fillSlot fillSlots times rows laid add mul div neg lt ne
+unfolding viewed load modify drawn load0 load1 load2 draw1 modify1 draw2 loadUnlit loadLit drawLit recolour drawRecoloured inkCount inkOf inkPlan asking changed changePlan modifyPlan cullPlan depthPlan runEdit drawPlan decoded floatsAfter wordsAfter depthAfter appends moved closed sameRun held le ofRatio isRatio entryAt tripleAt viewportAt sqrt toBits rowTimes codeOf depthOf vertexAt put write matches texgenMode pick find lightEntries directional sameScale refold floatsOf wordsOf clipOf slotAt slotOf verticesAt unless carry appended appending all stateSound blank openingPlan opening.opened viewing viewportPlan geometryPlan relit settled settledState sharedBy loadEdits loadPlan fillSlot fillSlots times rows laid add mul div neg lt ne
 prints =
     record {
       begins = (refl, refl);
@@ -46,4 +48,6 @@ prints =
       case11 = (((refl, refl), (refl, refl), refl, refl), ((refl, refl), (refl, refl)));
       case12 = (((refl, refl), (refl, refl), (refl, refl), (refl, refl), (refl, refl), (refl, refl)), (refl, refl, refl));
       case13 = (((refl, refl), (refl, refl), (refl, refl)), (refl, refl), (refl, refl), (refl, refl));
+      case14 = (((refl, refl), (refl, refl), (refl, refl), (refl, refl)), ((refl, refl), (refl, refl), (refl, refl)), ((refl, refl), (refl, refl)));
+      case15 = (((refl, refl), (refl, refl), refl), (refl, refl), (refl, refl));
     }

@@ -1,26 +1,27 @@
--- Thirteen cases of the rules as one table, a row for each. A case that goes through commands says the number and the values
+-- Fifteen cases of the rules as one table, a row for each. A case that goes through commands says the number and the values
 -- of each one's answer. `prints` of proofs/Proved.antt proves it whole.
 use mathlib.Core.Path.{_≡_}
 use mathlib.Core.Bool.{true, false}
 use mathlib.Core.List.{List, [], _∷_, _++_}
-use Prim.Native.Nat.{ℕ}
+use Prim.Native.Nat.{ℕ, _+_, _*_}
 use lib.ListN.{replicate, getD}
 use lib.IntN.{ℤ, pos, negsuc}
 use lib.Ieee.{Float, binary32, toBits}
 use Rattle.numbers.specs.Ratio.{ofRatio, isRatio}
 use Rattle.numbers.specs.Sqrt.{sqrt}
+use Rattle.areas.specs.Widths.{wordWidth, colourWord, lightsWord}
 use Rattle.matrix.specs.Math.{at}
 use Rattle.mode.specs.declared.ModeWord.{ModeWord}
 use Rattle.mode.specs.Word.{joined}
 use Rattle.decide.specs.Family.{familyOf}
 use Rattle.decide.specs.Lights.{lightNumber}
 use Rattle.stage.specs.declared.State.{State}
-use Rattle.stage.specs.Plan.{Outcome, carry, viewportArea, tableIn, nothing}
+use Rattle.stage.specs.Plan.{Outcome, carry, viewportArea, indexArea, rowTable, tableIn, nothing}
 use Rattle.stage.specs.Sound.{limit}
 use Rattle.stage.specs.Opening.{zeros, blank, openingPlan, areas12}
 use Rattle.stage.specs.Matrices.{viewportPlan, geometryPlan, area2}
 use Rattle.stage.specs.Load.{loadAreas, LoadAreas, loadMeans}
-use Rattle.stage.specs.Modify.{modifyMeans}
+use Rattle.stage.specs.Modify.{modifyMeans, inkPlan}
 use Rattle.stage.specs.Draw.{cullPlan, depthPlan, drawMeans}
 use Rattle.layout.specs.Layout.{entryAt, viewportAt}
 
@@ -153,6 +154,45 @@ inTurn = moded (moded opened over .state) back
 abbrev pub asOne : Outcome (Unit {0})
 asOne = moded opened (joined over back)
 
+-- the bytes of a vertex whose colour word is 0x04030201
+abbrev pub inkBytes : List ℕ
+inkBytes = replicate 12 0 ++ (1 ∷ 2 ∷ 3 ∷ 4 ∷ [])
+
+-- it is loaded into slot 0, with room for one light; the lighting bit is set; it is loaded into slot 1, and one of zeros into slot 2
+unfoldable pub loadUnlit : Outcome LoadAreas
+loadUnlit = load opened (loadAreas (opening .areas .0) (zeros 8) (zeros 6) [] [] (zeros 36) (replicate 40 0)) 0 1 inkBytes
+
+abbrev pub lighting : Outcome (Unit {0})
+lighting = moded (loadUnlit .state) over
+
+unfoldable pub loadLit : Outcome LoadAreas
+loadLit = load (lighting .state) (loadUnlit .areas) 1 2 (inkBytes ++ replicate 16 0)
+
+-- then draw 0 1 2; modify slot 1 to that colour; draw 1 1 1
+unfoldable pub drawLit : Outcome (List ℕ × List ℕ)
+drawLit = drawn (loadLit .state) (replicate 6 99, replicate 8 99)
+
+unfoldable pub recolour : Outcome (List Float × List Float × List ℕ)
+recolour = modify (drawLit .state) (loadLit .areas) 1 0x10 0x01020304
+
+unfoldable pub drawRecoloured : Outcome (List ℕ × List ℕ)
+drawRecoloured = drawMeans (recolour .state) 1 1 1 (0 ∷ 0 ∷ 0 ∷ 0 ∷ []) (drawLit .areas)
+
+-- an ink count over the rows, f and w, and the indices l
+unfoldable pub inkCount : State → List Float → List ℕ → List ℕ → ℕ → Outcome (Unit {0})
+inkCount s f w l colour = carry nothing (inkPlan s (rowTable (s .counts .rows) f w) (tableIn indexArea (s .counts) l) colour) s tt
+
+-- with that draw, and with the second
+abbrev pub inkLit : ℕ → Outcome (Unit {0})
+inkLit colour = inkCount (drawLit .state) (loadLit .areas .floats) (loadLit .areas .words) (drawLit .areas .0) colour
+
+abbrev pub inkRecoloured : ℕ → Outcome (Unit {0})
+inkRecoloured colour = inkCount (drawRecoloured .state) (recolour .areas .1) (recolour .areas .2) (drawRecoloured .areas .0) colour
+
+-- a row has this colour word and this light count
+abbrev pub Lit : List ℕ → ℕ → ℕ → ℕ → Type 0
+Lit words row colour lights = (getD words (row * wordWidth + colourWord) 0 ≡ colour) × (getD words (row * wordWidth + lightsWord) 99 ≡ lights)
+
 pub record Prints : Type 0 where
   -- what the cases of commands begin with
   pub begins : Done opening
@@ -182,3 +222,7 @@ pub record Prints : Type 0 where
   pub case12 : (Tells load0 1 × Tells load1 1 × Tells load2 1 × Done draw1 × Done modify1 × Done draw2) × ((draw2 .areas .0 ≡ 0 ∷ 1 ∷ 2 ∷ 0 ∷ 3 ∷ 2 ∷ []) × (draw2 .areas .1 ≡ 0 ∷ 0 ∷ 0 ∷ 0 ∷ 0 ∷ 0 ∷ 0 ∷ 6 ∷ []) × (draw2 .state .counts .runs ≡ 1))
   -- 13. the lighting bit turned over and back: the two mode words leave the word 0 and mark lights changed; the joined one leaves the word 0, and no mark
   pub case13 : (Done (moded opened over) × Done inTurn × Done asOne) × ((opened .geometry ≡ 0) × (opened .lights .changed ≡ false)) × ((inTurn .state .geometry ≡ 0) × (inTurn .state .lights .changed ≡ true)) × ((asOne .state .geometry ≡ 0) × (asOne .state .lights .changed ≡ false))
+  -- 14. one unlit and one lit corner with the same colour word: 1 is counted; and none for the word of a corner that is lit
+  pub case14 : (Tells loadUnlit 1 × Done lighting × Tells loadLit 1 × Done drawLit) × (Lit (loadLit .areas .words) 0 0x04030201 0 × Lit (loadLit .areas .words) 1 0x04030201 1 × Lit (loadLit .areas .words) 2 0 1) × (Tells (inkLit 0x04030201) 1 × Tells (inkLit 0) 0)
+  -- 15. the lit one set to that colour by modify, and drawn three times: 3 more are counted
+  pub case15 : (Done recolour × Done drawRecoloured × (drawRecoloured .areas .0 ≡ 0 ∷ 1 ∷ 2 ∷ 3 ∷ 3 ∷ 3 ∷ [])) × Lit (recolour .areas .2) 3 0x04030201 0 × Tells (inkRecoloured 0x04030201) 4

@@ -7,6 +7,7 @@ pub mod Culling
 pub mod Drawing
 pub mod Early
 pub mod Filling
+pub mod Inking
 pub mod Judged
 pub mod Lighting
 pub mod Loading

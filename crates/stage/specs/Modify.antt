@@ -10,7 +10,7 @@ use Rattle.change.specs.declared.Asked.{Asked}
 use Rattle.change.specs.declared.Asked.the-variants.{Known, Unknown}
 use Rattle.change.specs.declared.judge.Moved.{Moved}
 use Rattle.change.specs.Decoded.{decoded, floatsAfter, wordsAfter, depthAfter, unitEntry, appends}
-use Rattle.change.specs.Ink.{inkOf}
+use Rattle.ink.specs.Ink.{inkOf}
 use Rattle.stage.specs.declared.State.{State}
 use Rattle.stage.specs.declared.Counts.{Counts}
 use Rattle.stage.specs.Plan.{Table, Edit, keep, grow, patch, Row, Edits, Plan, refuse, does, unless, pick, lent, judge, untouched, undrawn, rowTable, rowWords, scaleArea, floatArea, wordArea, tableIn, afterIn, Outcome, carry}
@@ -90,7 +90,7 @@ modifyMeans s slot attribute value l = carry areas37 (modifyPlan (limit s) s (ta
 
 -- ---- ink count
 
--- Ink count: the indices in use whose row has the colour word asked; an index beyond the rows is not counted
+-- Ink count: the indices in use whose row has the ink asked, which only an unlit row can have; an index beyond the rows is not counted
 unfoldable pub inkPlan : State → Table Row → Table (List ℕ) → ℕ → Plan
 inkPlan s rows indices colour =
     sound s

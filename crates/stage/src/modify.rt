@@ -113,8 +113,8 @@ impl State {
         }
     }
 
-    // Ink count (15): how many indices in use are of rows in use that have the colour word, its bytes as the row has them: those of
-    // modify's value the other way round.
+    // Ink count (15): how many indices in use are of rows in use that are unlit and have the colour word, its bytes as the row has
+    // them: those of modify's value the other way round. A lit row's colour word is a packed normal, and no ink.
     pub fn ink_count(
         mut self,
         colour: u32,
@@ -144,7 +144,7 @@ impl State {
                 answer: Answer::ShortArea(8),
             };
         }
-        let n = change::ink::count_ink(words, rows, indices, used, colour);
+        let n = ink::count_ink(words, rows, indices, used, colour);
         Answered {
             state: self,
             answer: Answer::Told(n),

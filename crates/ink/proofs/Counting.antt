@@ -1,33 +1,28 @@
 -- The indices counted one by one. Assumes nothing.
-use Prim.Native.Nat.{ℕ, zero, suc, _+_, _*_, _≤_, _<_}
-use native.Mathlib.Nat.{zero-mul, suc-mul, add-zero}
+use Prim.Native.Nat.{ℕ, _+_, _*_, _≤_, _<_}
 use native.Mathlib.Numerals.{add-one}
 use native.Mathlib.Omega.{arith}
 use mathlib.Core.Bool.{Bool, true, false}
 use mathlib.Core.Path.{_≡_, refl, _∙_}
 use mathlib.Core.List.{List, [], _∷_, _++_}
-use lib.ListN.{drop, getD}
-use lib.Seq.{drop-drop}
+use lib.ListN.{getD}
 use borrow.Author.Tests.{lt-ltb, le-ltb}
 use Rattle.numbers.specs.Choice.{pick}
 use Rattle.areas.specs.Widths.{indexWidth}
 use Rattle.areas.specs.Area.{part, entries}
-use Rattle.areas.proofs.Tables.{length-entries, entry-is}
-use Rattle.change.specs.Ink.{hasInk, inkAt, inkOf}
-use Rattle.change.proofs.Storing.{part-at}
+use Rattle.areas.proofs.Tables.{length-entries, entry-is, part-at, entries-more}
+use Rattle.ink.specs.Ink.{hasInk, inkAt, inkOf}
 
--- one more entry read
-entries-more : {A : Type 0} (w n : ℕ) (l : List A) → entries w (suc n) l ≡ entries w n l ++ part l (n * w) w ∷ []
-entries-more w zero l = rw zero-mul
-entries-more w (suc n) l =
-    let e : suc n * w ≡ w + n * w = omega (arith, suc-mul n w) in
-    rw (e, entries-more w n (drop w l), drop-drop)
-
--- one more index counted
-inkOf-more : (colour : ℕ) (rows es : List (List ℕ)) (e : List ℕ) → inkOf colour rows (es ++ e ∷ []) ≡ inkOf colour rows es + pick (inkAt colour rows (getD e 0 0)) 1 0
+-- INDICES ONE BEHIND THE OTHER count as the sum
+pub inks-sum : (colour : ℕ) (rows es fs : List (List ℕ)) → inkOf colour rows (es ++ fs) ≡ inkOf colour rows es + inkOf colour rows fs
 unfolding inkOf
-inkOf-more colour rows [] e = omega arith
-inkOf-more colour rows (x ∷ es) e = rw (inkOf-more colour rows es e) (omega arith)
+inks-sum colour rows [] fs = omega arith
+inks-sum colour rows (e ∷ es) fs = rw (inks-sum colour rows es fs) (omega arith)
+
+-- one index
+ink-one : (colour : ℕ) (rows : List (List ℕ)) (e : List ℕ) → inkOf colour rows (e ∷ []) ≡ pick (inkAt colour rows (getD e 0 0)) 1 0
+unfolding inkOf
+ink-one colour rows e = omega arith
 
 -- the count n of the first j indices of l
 pub record Counted (colour : ℕ) (rows : List (List ℕ)) (l : List ℕ) (n j : ℕ) : Type 0 where
@@ -47,13 +42,13 @@ counted-more {colour} {rows} {l} {n} {m} {j} b c e d =
     let k : 0 < 1 = omega arith in
     let q : j * 1 + 0 ≡ j = omega arith in
     record {
-      same = rw (add-one, entries-more 1 j l, inkOf-more colour rows (entries indexWidth j l) (part l (j * 1) 1), part-at l (j * 1) 1 0 0 k, q, ← e, ← c .same) (d ∙ step b);
+      same = rw (add-one, entries-more 1 j l, inks-sum colour rows (entries indexWidth j l) (part l (j * 1) 1 ∷ []), ink-one colour rows (part l (j * 1) 1), part-at l (j * 1) 1 0 0 k, q, ← e, ← c .same) (d ∙ step b);
       most = rw d (small b);
     }
   where
     step : (b : Bool) → pick b (n + 1) n ≡ n + pick b 1 0
     step true = refl
-    step false = rw add-zero
+    step false = omega arith
 
     small : (b : Bool) → pick b (n + 1) n ≤ j + 1
     small true = omega (arith, c .most)

@@ -4,17 +4,18 @@ ghost use Prim.Native.Nat.{_+_, _*_, _≤_};
 ghost use lib.ListN.{length};
 ghost use Rattle.areas.specs.Area.{part, entries};
 ghost use Rattle.areas.specs.Widths.{wordWidth, indexWidth};
-ghost use Rattle.change.specs.Ink.{hasInk, inkAt, inkOf};
+ghost use Rattle.ink.specs.Ink.{hasInk, inkAt, inkOf};
 use areas::widths::COLOUR_WORD;
+use areas::widths::LIGHTS_WORD;
 use areas::widths::WORD_WIDTH;
 
-// Whether the row at place `at` has the ink asked, which is its colour word. Asks for a row that lies in the area: its
-// room has been judged by then.
+// Whether the row at place `at` has the ink asked: its light count is 0, since a lit row's colour word is a packed normal, and
+// its colour word is the one asked. Asks for a row that lies in the area: its room has been judged by then.
 fn has_ink(words: &[u32], at: usize, colour: u32) -> bool
     requires { ⌜ at + wordWidth ≤ length (now words) ⌝ }
     ensures { λ r. ⌜ r ≡ hasInk colour (part (now (words .entry)) at wordWidth) ⌝ }
 {
-    words[at + COLOUR_WORD] == colour
+    (words[at + LIGHTS_WORD] == 0) & (words[at + COLOUR_WORD] == colour)
 }
 
 // Whether the index `i` is that of a row in use that has the ink. Asks for rows that lie in the area, as above.

@@ -1,8 +1,8 @@
--- `change::ink::ink_at` meets its contract. Assumes nothing.
-use Rattle.change.proofs.Inks.{ink-in, ink-out}
+-- `ink::ink_at` meets its contract. Assumes nothing.
+use Rattle.ink.proofs.Counting.{ink-in, ink-out}
 use borrow.Author.Needs.{needs}
-use Rattle.change.proofs.ink.ink_at.Statement.{statement}
-use Rattle.change.proofs.ink.ink_at.Tie as tie
+use Rattle.ink.proofs.ink_at.Statement.{statement}
+use Rattle.ink.proofs.ink_at.Tie as tie
 
 place-requires : tie.Need-place-requires
 place-requires c κs = search needs

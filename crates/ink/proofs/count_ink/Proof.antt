@@ -1,4 +1,4 @@
--- `change::ink::count_ink` meets its contract. Assumes nothing.
+-- `ink::count_ink` meets its contract. Assumes nothing.
 use Prim.Native.Nat.{_≤_, _-_}
 use native.Mathlib.Omega.{arith}
 use mathlib.Core.Bool.{true, false}
@@ -8,9 +8,9 @@ use borrow.Author.Needs.{needs}
 use Rattle.numbers.specs.Choice.{pick}
 use Rattle.areas.specs.Area.{entries}
 use Rattle.areas.specs.Widths.{wordWidth}
-use Rattle.change.proofs.Inks.{Counted, counted-none, counted-more, counted-all}
-use Rattle.change.proofs.ink.count_ink.Statement.{statement}
-use Rattle.change.proofs.ink.count_ink.Tie as tie
+use Rattle.ink.proofs.Counting.{Counted, counted-none, counted-more, counted-all}
+use Rattle.ink.proofs.count_ink.Statement.{statement}
+use Rattle.ink.proofs.count_ink.Tie as tie
 
 abbrev Inv-loop : tie.InvT-loop
 Inv-loop words rows indices used colour n count₀ j₀ count j = Counted colour (entries wordWidth rows words) indices count j × (j ≤ used)

@@ -5,11 +5,11 @@ use mathlib.Core.List.{List, [], _∷_}
 use lib.ListN.{length, getD}
 use lib.Dec.{eqb, ltb}
 use Rattle.numbers.specs.Choice.{pick}
-use Rattle.areas.specs.Widths.{colourWord}
+use Rattle.areas.specs.Widths.{colourWord, lightsWord}
 
--- the row's colour word is the one asked
+-- the row has the ink asked: its light count is 0, since a lit row's colour word is a packed normal, and its colour word is the one asked
 abbrev pub hasInk : ℕ → List ℕ → Bool
-hasInk colour words = eqb (getD words colourWord 0) colour
+hasInk colour words = eqb (getD words lightsWord 0) 0 && eqb (getD words colourWord 0) colour
 
 -- the index i is that of a row in use that has the ink
 abbrev pub inkAt : ℕ → List (List ℕ) → ℕ → Bool
