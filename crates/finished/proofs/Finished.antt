@@ -3,7 +3,7 @@ use mathlib.Core.Path.{_≡_, refl, sym, ap, _∙_, subst}
 use Prim.Native.Nat.{ℕ, _+_, _*_, _≤_, _<_}
 use native.Mathlib.Omega.{arith}
 use mathlib.Core.Bool.{Bool, true, false, _&&_, false≢true}
-use mathlib.Core.List.{List, [], _∷_, _++_, append-assoc}
+use mathlib.Core.List.{List, [], _∷_, _++_, map, append-assoc}
 use lib.ListN.{length, getD, length-replicate}
 use lib.Dec.{leb}
 use borrow.Author.Tests.{leb-true}
@@ -17,23 +17,28 @@ use Rattle.change.specs.Decoded.{decoded}
 use Rattle.triangle.specs.Slot.{both}
 use Rattle.stage.specs.declared.State.{State}
 use Rattle.stage.specs.declared.settings.Microcode.{Microcode}
-use Rattle.stage.specs.Plan.{Plan, refuse, does, pick}
+use Rattle.ink.specs.Ink.{inkOf}
+use Rattle.stage.specs.Plan.{keep, Edits, Plan, refuse, does, pick, lent, carry, rowWords}
+use Rattle.stage.specs.Sound.{stateSound}
+use Rattle.stage.specs.Modify.{inkPlan}
 use Rattle.stage.specs.Opening.{blank, opened}
 use Rattle.stage.specs.Lights.{switched}
 use Rattle.stage.specs.Draw.{rowOf}
 use Rattle.stage.proofs.Judged.{and-left, and-right}
-use Rattle.sequence.specs.Sequence.{Command, matrix, force, pop, viewport, geometry, texture, fog, number, light, lookat, microcode, load, cull, depth, modify, draw, ink, Areas, Port, Book, Alike, book, plan, step, run, isDone, accepted, opening}
+use Rattle.sequence.specs.Sequence.{Command, matrix, force, pop, viewport, geometry, texture, fog, number, light, lookat, microcode, load, cull, depth, modify, draw, ink, Areas, Port, Book, Alike, book, plan, afterAll, result, step, run, isDone, accepted, opening}
 use Rattle.sequence.proofs.Turn.{enter, turn, course}
-use Rattle.sequence.proofs.Accepts.{Accepted}
+use Rattle.sequence.proofs.Accepts.{Accepted, on-does, on-unless, on-judge}
 use Rattle.sequence.proofs.Held.{Fits, step-book, run-book}
 use Rattle.sequence.proofs.Opened.{opened-book, opened-alike, open-book, open-refused, shut, run-shut, shut-plan}
 use Rattle.finished.specs.Shown.{Triangle, triangleOf}
 use Rattle.finished.specs.Bench.{Bench, bench0, noCorner, moved, turns, pops, modifies, withTriangle, given, draws, act, bench}
 use Rattle.finished.specs.Statement.{after, beside, recorded, noTriangle, gave, Stands, Finished, Demand3, OneRun, RunOf}
+use Rattle.finished.specs.Inked.{inkedIn, InkTells}
 use Rattle.finished.proofs.Lists.{Longer, same, with-more, longer-length, longer-at, none-marked, pick-case, pick-false}
 use Rattle.finished.proofs.Ties.{settingsOf, Inv}
 use Rattle.finished.proofs.Keeps.{Keeps, keeps}
 use Rattle.finished.proofs.Owned.{tiled-one, own, own-held, own-settings}
+use Rattle.finished.proofs.Inked.{standing-ink}
 
 module _ (F : ℕ → Family) (limit : State → ℕ) where
   -- ---- which commands are accepted
@@ -333,6 +338,43 @@ module _ (F : ℕ → Family) (limit : State → ℕ) where
     pub same-use : (x y : Areas) → Alike x y → Opens x → (cs : List Command) → book (after (plan F limit) x cs) ≡ book (after (plan F limit) y cs)
     same-use x y e o cs = after-alike x y e o (alike-opens x y e o) cs .0
 
+    -- ---- what is told
+
+    -- the values told are w
+    abbrev Tells : List ℕ → List ℕ → State → Edits → Type 0
+    Tells w vs t e = vs ≡ w
+
+    values-are : (q : Plan) (w : List ℕ) (s : State) (l : Areas) → isDone q ≡ true → Accepted (Tells w) q → carry afterAll q s l .values ≡ w
+    unfolding carry Accepted
+    values-are (refuse n vs) w s l h a = absurd (false≢true h)
+    values-are (does vs t e) w s l h a = a
+
+    -- an ink count tells how many indices in use have the ink
+    ink-told : (k : Book) (colour : ℕ) → Accepted (Tells (inkOf colour (map rowWords (k .rows .used)) (k .drawing .indices .used) ∷ [])) (plan F limit (ink colour) k)
+    unfolding plan inkPlan
+    ink-told k colour =
+        let Q : List ℕ → State → Edits → Type 0 = Tells (inkOf colour (map rowWords (k .rows .used)) (k .drawing .indices .used) ∷ []) in
+        on-unless Q (stateSound (k .state)) 10 [] _ (λ _. on-judge Q 8 (lent 7 (k .rows) keep ∷ lent 8 (k .drawing .indices) keep ∷ []) _ (λ _. on-does Q _ _ _ refl))
+
+    inks-told : (l : Areas) (cs : List Command) (colour : ℕ) → let p = after (plan F limit) l cs in
+        isDone (plan F limit (ink colour) (book p)) ≡ true
+        → result (plan F limit) (ink colour) p .values ≡ inkedIn colour (beside F (plan F limit) seats l cs .triangles) ∷ []
+    unfolding result book blank
+    inks-told l cs colour h =
+        let p : Port = after (plan F limit) l cs in
+        let P : Type 0 = result (plan F limit) (ink colour) p .values ≡ inkedIn colour (beside F (plan F limit) seats l cs .triangles) ∷ [] in
+        by-opening P l
+        (λ o.
+        values-are (plan F limit (ink colour) (book p)) _ (p .state) (p .areas) h (ink-told (book p) colour)
+        ∙ ap (λ (n : ℕ). n ∷ []) (standing-ink colour (after-inv l o cs .ties .standing)))
+        (λ e.
+        let q : p .state .opened ≡ false = ap (λ (r : Port). r .state .opened) (run-shut F limit cs (opening l) (ap (λ (r : Port). r .state .opened) e) ∙ e) in
+        absurd (false≢true (sym (ap isDone (shut-plan F limit (ink colour) (book p) q)) ∙ h)))
+
 -- A RECORDED TRIANGLE IS FINISHED
 pub finished : Demand3
 finished F limit seats inside few x y e cs ds es n = both-stand F limit seats inside few x y e cs ds es n
+
+-- AN INK COUNT TELLS OF WHAT WAS DRAWN
+pub ink-tells : InkTells
+ink-tells F limit seats inside few l cs colour h = inks-told F limit seats inside few l cs colour h

@@ -10,5 +10,6 @@ pub mod Loading
 pub mod Modified
 pub mod Keeps
 pub mod Owned
+pub mod Inked
 pub mod Finished
 pub mod Refuted

@@ -16,8 +16,8 @@ ink-means colour words =
     let a : Bool = eqb (getD words lightsWord 0) 0 in
     let b : Bool = eqb (getD words colourWord 0) colour in (
       λ h.
-      let k = and-eq-true-iff a b .0 h in
-      (eqb-true (getD words lightsWord 0) 0 (k .0), eqb-true (getD words colourWord 0) colour (k .1)),
+          let k = and-eq-true-iff a b .0 h in
+          (eqb-true (getD words lightsWord 0) 0 (k .0), eqb-true (getD words colourWord 0) colour (k .1)),
       λ h. and-eq-true-iff a b .1 (eq-eqb (getD words lightsWord 0) 0 (h .0), eq-eqb (getD words colourWord 0) colour (h .1)),
     )
 
