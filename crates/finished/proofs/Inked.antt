@@ -2,16 +2,16 @@
 use mathlib.Core.Path.{_≡_, refl, sym, ap, _∙_}
 use Prim.Native.Nat.{ℕ, zero, suc, _+_, _*_, _≤_, _<_}
 use native.Mathlib.Omega.{arith}
-use mathlib.Core.Bool.{true, false, _&&_}
+use mathlib.Core.Bool.{Bool, false, _&&_}
 use mathlib.Core.List.{List, [], _∷_, map}
 use lib.ListN.{length, getD, take, drop, length-map, length-drop, List·getD-map}
 use lib.Dec.{eqb}
 use lib.Ieee.{Float}
 use borrow.Author.Tests.{lt-ltb, ne-eqb}
 use Rattle.areas.specs.Area.{part}
-use Rattle.areas.specs.Widths.{lightWord, lightsWord}
+use Rattle.areas.specs.Widths.{colourWord, lightWord, lightsWord}
 use Rattle.ink.specs.Ink.{hasInk, inkAt, inkOf}
-use Rattle.stage.specs.Plan.{Row, rowWords, pick}
+use Rattle.stage.specs.Plan.{Row, rowWords}
 use Rattle.finished.specs.Shown.{Corner, Triangle, Entries, rowWord, shownBy, shown, noRow, named, cornerOf, triangleOf}
 use Rattle.finished.specs.Statement.{noTriangle}
 use Rattle.finished.specs.Inked.{empty, inkedAs, inkedIn}
@@ -31,7 +31,8 @@ module _ (t : Entries) (colour : ℕ) where
   -- a row's ink is that of the corner it shows
   row-ink : (r : Row) → Sound t r → hasInk colour (r .words) ≡ inkedAs colour (shown t r)
   unfolding shown shownBy
-  row-ink r s = rw (empty-part (t .lights) (rowWord r lightWord) (rowWord r lightsWord) (s .in-use .lights))
+  row-ink r s =
+      ap (λ (b : Bool). b && eqb (rowWord r colourWord) colour) (sym (empty-part (t .lights) (rowWord r lightWord) (rowWord r lightsWord) (s .in-use .lights)))
 
   -- an index of a row in use counts where the corner that it shows is inked
   index-ink : (rows : List Row) (indices : List (List ℕ)) (i : ℕ) → named indices i < length rows → Sound t (getD rows (named indices i) noRow)
