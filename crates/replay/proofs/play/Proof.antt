@@ -1,6 +1,6 @@
 -- `replay::play` meets its contract. Assumes nothing.
 use native.Mathlib.Omega.{arith}
-use Prim.Native.Nat.{_≤_, _-_}
+use Prim.Native.Nat.{ℕ, _≤_, _-_}
 use lib.ListN.{length}
 use denote.Ref.{now}
 use mathlib.Core.Path.{refl, ap, _∙_}
@@ -40,7 +40,7 @@ abbrev tested : tie.After-call-at Inv-loop μ-loop → tie.In-loop Inv-loop μ-l
 tested c = c .before .before .before
 
 abbrev start : tie.At-loop Inv-loop μ-loop → tie.Start Inv-loop μ-loop
-start c = c .before .before .before .before .before .before .before .before .before .before .before .before
+start c = c .before .before .before .before .before .before .before .before .before .before .before .before .before
 
 -- ---- the areas and what they are to come to, by name: left to be found they cost most of this proof
 
@@ -62,15 +62,18 @@ areas-next x =
     let e = x .step .last .1 .1 .1 .1 in
     areasOf (e .0) (e .1 .0) (e .1 .1 .0) (e .1 .1 .1 .0) (e .1 .1 .1 .1 .0) (e .1 .1 .1 .1 .1 .0) (e .1 .1 .1 .1 .1 .1 .0) (e .1 .1 .1 .1 .1 .1 .1 .0) (e .1 .1 .1 .1 .1 .1 .1 .1 .0) (e .1 .1 .1 .1 .1 .1 .1 .1 .1 .0)
 
-abbrev comes-to : tie.At-loop Inv-loop μ-loop → State → Port
-comes-to o g =
+abbrev comes-to : tie.At-loop Inv-loop μ-loop → State → ℕ → Port
+comes-to o g n =
     let a = start o .args in
-    playFrom (length (now (a .s))) (now (a .s)) 44 (a .own) (portOf g (areas-first o))
+    playFrom (length (now (a .s))) (now (a .s)) n (a .own) (portOf g (areas-first o))
 
 -- ---- the needs
 
 unopened-requires : tie.Need-unopened-requires Inv-loop μ-loop
 unopened-requires c κs = search needs
+
+size-of-requires : tie.Need-size-of-requires Inv-loop μ-loop
+size-of-requires c κs = search needs
 
 loop-holds : tie.Need-loop-holds Inv-loop μ-loop
 loop-holds c = (omega arith, (omega arith, (all-left _ _ _ _, record { matrices = refl; viewports = refl; scales = refl; lights = refl; lookats = refl; fogs = refl; floats = refl; words = refl; indices = refl; runs = refl })))
@@ -121,7 +124,7 @@ loop-again c =
     let o = tested k .before in
     let v = o .loop .inv in
     let e = k .call-at .ensures .0 ∙ ap (λ (h : Shape). callAt h (now (start o .args .s)) (o .loop .at)) (k .before .shape-of .ensures) in
-    let l = left-behind (now (start o .args .s)) (o .loop .at) (o .loop .lent) (port-at o) (comes-to o (o .before .unopened .result .state)) (k .call-at .result) (x .step .result) (c .before .before .lent-after .result) (areas-next x) (tested k .loop-test .taken) e (not-false _ (w .if1 .left)) (k .call-at .ensures .1 .past) (x .step .ensures) (c .before .before .lent-after .ensures) (v .1 .1 .0) in
+    let l = left-behind (now (start o .args .s)) (o .loop .at) (o .loop .lent) (port-at o) (comes-to o (o .before .before .unopened .result .state) (o .before .size-of .result)) (k .call-at .result) (x .step .result) (c .before .before .lent-after .result) (areas-next x) (tested k .loop-test .taken) e (not-false _ (w .if1 .left)) (k .call-at .ensures .1 .past) (x .step .ensures) (c .before .before .lent-after .ensures) (v .1 .1 .0) in
     (k .call-at .ensures .1 .inside, (omega (arith, k .call-at .ensures .1 .past, v .1 .0), (l, still-alike (areas-next x) (areas-at o) (areas-first o) (x .step .kept .1 .1 .1 .1) (v .1 .1 .1))))
 
 same-length : tie.Need-same-length Inv-loop μ-loop
@@ -159,14 +162,15 @@ returns c =
     let o = c .before .before in
     let l = o .loop in
     let s = now (start o .args .s) in
-    let g = o .before .unopened in
+    let g = o .before .before .unopened in
+    let h = o .before .size-of in
     _∙_
-    {b = comes-to o (g .result .state)}
+    {b = comes-to o (g .result .state) (h .result)}
     (⊎-elim
-    (λ h. ended s (l .at) (l .lent) (port-at o) (comes-to o (g .result .state)) (h .left) (l .inv .1 .1 .0))
-    (λ h. cut s (l .at) (l .lent) (port-at o) (comes-to o (g .result .state)) (h .3 .result) (h .3 .ensures .0 ∙ ap (λ (x : Shape). callAt x s (l .at)) (h .2 .ensures)) (not-true _ (h .5 .taken)) (l .inv .1 .1 .0))
+    (λ t. ended s (l .at) (l .lent) (port-at o) (comes-to o (g .result .state) (h .result)) (t .left) (l .inv .1 .1 .0))
+    (λ t. cut s (l .at) (l .lent) (port-at o) (comes-to o (g .result .state) (h .result)) (t .3 .result) (t .3 .ensures .0 ∙ ap (λ (x : Shape). callAt x s (l .at)) (t .2 .ensures)) (not-true _ (t .5 .taken)) (l .inv .1 .1 .0))
     (c .before .loop-test .came))
-    (ap (comes-to o) (g .ensures))
+    (λ i. comes-to o (g .ensures i) (h .ensures i))
 
 pub play-spec : {M : Type 1} → statement M
 play-spec =
@@ -175,6 +179,7 @@ play-spec =
     Inv-loop
     μ-loop
     unopened-requires
+    size-of-requires
     loop-holds
     shared-slice-read-shape-of
     shape-of-requires
