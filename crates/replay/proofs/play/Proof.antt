@@ -1,14 +1,15 @@
 -- `replay::play` meets its contract. Assumes nothing.
 use native.Mathlib.Omega.{arith}
-use Prim.Native.Nat.{ℕ, _≤_, _-_}
+use Prim.Native.Nat.{_≤_, _-_}
 use lib.ListN.{length}
 use denote.Ref.{now}
-use mathlib.Core.Path.{refl, ap, _∙_}
+use mathlib.Core.Path.{refl, sym, ap, _∙_}
 use mathlib.Core.Logic.{⊎-elim}
 use borrow.Author.Tests.{not-true, not-false}
 use Rattle.stage.specs.declared.State.{State}
 use Rattle.sequence.specs.Sequence.{Areas, Port, Alike}
 use Rattle.trace.specs.declared.ops.Shape.{Shape}
+use Rattle.trace.specs.Header.{headerSize}
 use Rattle.trace.specs.Script.{callAt}
 use Rattle.player.specs.Ops.{areasOf}
 use Rattle.player.specs.Play.{portOf, playFrom}
@@ -20,7 +21,7 @@ use Rattle.replay.proofs.play.Tie as tie
 
 abbrev Inv-loop : tie.InvT-loop
 Inv-loop s matrices₀ viewports₀ scales₀ lights₀ lookats₀ fogs₀ floats₀ words₀ indices₀ runs₀ lent₀ g₀ at₀ i₀ matrices viewports scales lights lookats fogs floats words indices runs lent g at i =
-    (at ≤ length s) × ((i ≤ at) × (Left s at lent (portOf (g .state) (areasOf matrices viewports scales lights lookats fogs floats words indices runs)) (playFrom (length s) s at₀ lent₀ (portOf (g₀ .state) (areasOf matrices₀ viewports₀ scales₀ lights₀ lookats₀ fogs₀ floats₀ words₀ indices₀ runs₀))) × Alike (areasOf matrices viewports scales lights lookats fogs floats words indices runs) (areasOf matrices₀ viewports₀ scales₀ lights₀ lookats₀ fogs₀ floats₀ words₀ indices₀ runs₀)))
+    Left s at lent (portOf (g .state) (areasOf matrices viewports scales lights lookats fogs floats words indices runs)) (playFrom (length s) s (headerSize s) lent₀ (portOf (g₀ .state) (areasOf matrices₀ viewports₀ scales₀ lights₀ lookats₀ fogs₀ floats₀ words₀ indices₀ runs₀))) × ((at ≤ length s) × ((i ≤ at) × Alike (areasOf matrices viewports scales lights lookats fogs floats words indices runs) (areasOf matrices₀ viewports₀ scales₀ lights₀ lookats₀ fogs₀ floats₀ words₀ indices₀ runs₀)))
 
 abbrev μ-loop : tie.MeasureT-loop
 μ-loop s matrices₀ viewports₀ scales₀ lights₀ lookats₀ fogs₀ floats₀ words₀ indices₀ runs₀ lent₀ g₀ at₀ i₀ matrices viewports scales lights lookats fogs floats words indices runs lent g at i = length s - at
@@ -62,10 +63,10 @@ areas-next x =
     let e = x .step .last .1 .1 .1 .1 in
     areasOf (e .0) (e .1 .0) (e .1 .1 .0) (e .1 .1 .1 .0) (e .1 .1 .1 .1 .0) (e .1 .1 .1 .1 .1 .0) (e .1 .1 .1 .1 .1 .1 .0) (e .1 .1 .1 .1 .1 .1 .1 .0) (e .1 .1 .1 .1 .1 .1 .1 .1 .0) (e .1 .1 .1 .1 .1 .1 .1 .1 .1 .0)
 
-abbrev comes-to : tie.At-loop Inv-loop μ-loop → State → ℕ → Port
-comes-to o g n =
+abbrev comes-to : tie.At-loop Inv-loop μ-loop → State → Port
+comes-to o g =
     let a = start o .args in
-    playFrom (length (now (a .s))) (now (a .s)) n (a .own) (portOf g (areas-first o))
+    playFrom (length (now (a .s))) (now (a .s)) (headerSize (now (a .s))) (a .own) (portOf g (areas-first o))
 
 -- ---- the needs
 
@@ -76,7 +77,7 @@ size-of-requires : tie.Need-size-of-requires Inv-loop μ-loop
 size-of-requires c κs = search needs
 
 loop-holds : tie.Need-loop-holds Inv-loop μ-loop
-loop-holds c = (omega arith, (omega arith, (all-left _ _ _ _, record { matrices = refl; viewports = refl; scales = refl; lights = refl; lookats = refl; fogs = refl; floats = refl; words = refl; indices = refl; runs = refl })))
+loop-holds c = (rw (sym (c .size-of .ensures)) (all-left _ _ _ _), (omega arith, (omega arith, record { matrices = refl; viewports = refl; scales = refl; lights = refl; lookats = refl; fogs = refl; floats = refl; words = refl; indices = refl; runs = refl })))
 
 shared-slice-read-shape-of : tie.Need-shared-slice-read-shape-of Inv-loop μ-loop
 shared-slice-read-shape-of c = search needs
@@ -109,7 +110,7 @@ add-i : tie.Need-add-i Inv-loop μ-loop
 add-i c =
     let k = read (whole (stepped c)) in
     let o = tested k .before in
-    record { fits = omega (arith, o .loop .inv .1 .0, k .call-at .ensures .1 .past, k .call-at .ensures .1 .inside, start o .pre .1) }
+    record { fits = omega (arith, o .loop .inv .1 .1 .0, k .call-at .ensures .1 .past, k .call-at .ensures .1 .inside, start o .pre .1) }
 
 loop-less : tie.Need-loop-less Inv-loop μ-loop
 loop-less c =
@@ -124,8 +125,8 @@ loop-again c =
     let o = tested k .before in
     let v = o .loop .inv in
     let e = k .call-at .ensures .0 ∙ ap (λ (h : Shape). callAt h (now (start o .args .s)) (o .loop .at)) (k .before .shape-of .ensures) in
-    let l = left-behind (now (start o .args .s)) (o .loop .at) (o .loop .lent) (port-at o) (comes-to o (o .before .before .unopened .result .state) (o .before .size-of .result)) (k .call-at .result) (x .step .result) (c .before .before .lent-after .result) (areas-next x) (tested k .loop-test .taken) e (not-false _ (w .if1 .left)) (k .call-at .ensures .1 .past) (x .step .ensures) (c .before .before .lent-after .ensures) (v .1 .1 .0) in
-    (k .call-at .ensures .1 .inside, (omega (arith, k .call-at .ensures .1 .past, v .1 .0), (l, still-alike (areas-next x) (areas-at o) (areas-first o) (x .step .kept .1 .1 .1 .1) (v .1 .1 .1))))
+    let l = left-behind (now (start o .args .s)) (o .loop .at) (o .loop .lent) (port-at o) (comes-to o (o .before .before .unopened .result .state)) (k .call-at .result) (x .step .result) (c .before .before .lent-after .result) (areas-next x) (tested k .loop-test .taken) e (not-false _ (w .if1 .left)) (k .call-at .ensures .1 .past) (x .step .ensures) (c .before .before .lent-after .ensures) (v .0) in
+    (l, (k .call-at .ensures .1 .inside, (omega (arith, k .call-at .ensures .1 .past, v .1 .1 .0), still-alike (areas-next x) (areas-at o) (areas-first o) (x .step .kept .1 .1 .1 .1) (v .1 .1 .1))))
 
 same-length : tie.Need-same-length Inv-loop μ-loop
 same-length c = c .before .before .loop .inv .1 .1 .1 .matrices
@@ -163,14 +164,13 @@ returns c =
     let l = o .loop in
     let s = now (start o .args .s) in
     let g = o .before .before .unopened in
-    let h = o .before .size-of in
     _∙_
-    {b = comes-to o (g .result .state) (h .result)}
+    {b = comes-to o (g .result .state)}
     (⊎-elim
-    (λ t. ended s (l .at) (l .lent) (port-at o) (comes-to o (g .result .state) (h .result)) (t .left) (l .inv .1 .1 .0))
-    (λ t. cut s (l .at) (l .lent) (port-at o) (comes-to o (g .result .state) (h .result)) (t .3 .result) (t .3 .ensures .0 ∙ ap (λ (x : Shape). callAt x s (l .at)) (t .2 .ensures)) (not-true _ (t .5 .taken)) (l .inv .1 .1 .0))
+    (λ h. ended s (l .at) (l .lent) (port-at o) (comes-to o (g .result .state)) (h .left) (l .inv .0))
+    (λ h. cut s (l .at) (l .lent) (port-at o) (comes-to o (g .result .state)) (h .3 .result) (h .3 .ensures .0 ∙ ap (λ (x : Shape). callAt x s (l .at)) (h .2 .ensures)) (not-true _ (h .5 .taken)) (l .inv .0))
     (c .before .loop-test .came))
-    (λ i. comes-to o (g .ensures i) (h .ensures i))
+    (ap (comes-to o) (g .ensures))
 
 pub play-spec : {M : Type 1} → statement M
 play-spec =
