@@ -20,7 +20,7 @@ use Rattle.sequence.proofs.Held.{length-after}
 use Rattle.trace.specs.declared.rooms.Lengths.{Lengths}
 use Rattle.trace.specs.declared.script.Call.{Call}
 use Rattle.trace.specs.Acts.{lengthList, lentAfter, writtenTo}
-use Rattle.trace.specs.Header.{lengthsOf}
+use Rattle.trace.specs.Header.{headerSize, lengthsOf}
 use Rattle.trace.specs.Script.{callAt}
 use Rattle.trace.specs.Shapes.{shapeOf}
 use Rattle.player.specs.Ops.{Act, opens, sends, pokes, rests, stage, acted, setOf, turnOf, actOf, lesser, firsts, behind, lendBy, writtenBy, stepBy}
@@ -308,7 +308,7 @@ sizes-made n =
 
 -- WHAT A SCRIPT THAT NEITHER LENDS NOR WRITES LEAVES
 pub replay-acts : ReplayActs
-replay-acts s h = acts-left (length s) s (lengthsOf s) 44 (portOf (blank false) (made (lengthsOf s))) (sizes-made (lengthsOf s)) h
+replay-acts s h = acts-left (length s) s (lengthsOf s) (headerSize s) (portOf (blank false) (made (lengthsOf s))) (sizes-made (lengthsOf s)) h
 
 -- ---- commands alone
 

@@ -10,6 +10,7 @@ use Rattle.stage.specs.Opening.{blank}
 use Rattle.sequence.specs.Sequence.{Areas, Port}
 use Rattle.trace.specs.declared.rooms.Lengths.{Lengths}
 use Rattle.trace.specs.declared.script.Call.{Call}
+use Rattle.trace.specs.Header.{headerSize}
 use Rattle.trace.specs.Script.{callAt}
 use Rattle.trace.specs.Acts.{lengthList, lentAfter}
 use Rattle.player.specs.Ops.{stepBy}
@@ -49,4 +50,4 @@ playFrom (suc n) s at lent p =
 
 -- a script behind its header, from areas that nothing has opened; every op takes a byte at least
 abbrev pub played : List ℕ → Lengths → Areas → Port
-played s own l = playFrom (length s) s 44 own (portOf (blank false) l)
+played s own l = playFrom (length s) s (headerSize s) own (portOf (blank false) l)

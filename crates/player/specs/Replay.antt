@@ -11,7 +11,7 @@ use Rattle.numbers.specs.Choice.{pick}
 use Rattle.stage.specs.Opening.{blank}
 use Rattle.sequence.specs.Sequence.{Command, Areas, Port, run, opening}
 use Rattle.trace.specs.declared.rooms.Lengths.{Lengths}
-use Rattle.trace.specs.Header.{lengthsOf}
+use Rattle.trace.specs.Header.{headerSize, lengthsOf}
 use Rattle.trace.specs.Script.{callAt}
 use Rattle.trace.specs.Shapes.{shapeOf}
 use Rattle.player.specs.Ops.{Act, opens, sends, pokes, rests, stage, acted, actOf, areasOf}
@@ -46,7 +46,7 @@ actsFrom (suc n) s at =
 
 -- those of a script behind its header
 abbrev pub actsOf : List ℕ → List Act
-actsOf s = actsFrom (length s) s 44
+actsOf s = actsFrom (length s) s (headerSize s)
 
 -- A TRACE OF COMMANDS ALONE: the script opens, and then sends the commands cs
 abbrev pub Sends : List ℕ → List Command → Type 0

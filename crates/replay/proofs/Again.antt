@@ -81,7 +81,7 @@ bounds =
       lookats = 6144;
       fogs = 1024;
       floats = 36864;
-      words = 40960;
+      words = 45056;
       indices = 12288;
       runs = 16384;
     }
@@ -98,7 +98,7 @@ fronts-made n w =
       lookats = front-equal (n .lookats) 6144 seven (w .lookats) i;
       fogs = front-equal (n .fogs) 1024 (pos 7) (w .fogs) i;
       floats = front-equal (n .floats) 36864 seven (w .floats) i;
-      words = front-equal {A = ℕ} (n .words) 40960 7 (w .words) i;
+      words = front-equal {A = ℕ} (n .words) 45056 7 (w .words) i;
       drawing = record { indices = front-equal {A = ℕ} (n .indices) 12288 7 (w .indices) i; runs = front-equal {A = ℕ} (n .runs) 16384 7 (w .runs) i };
     }
 
@@ -114,7 +114,7 @@ fronts-are n x w k =
       lookats = front-is (n .lookats) 6144 seven (x .lookats) (k .1 .1 .1 .1 .0) (w .lookats) i;
       fogs = front-is (n .fogs) 1024 (pos 7) (x .fogs) (k .1 .1 .1 .1 .1 .0) (w .fogs) i;
       floats = front-is (n .floats) 36864 seven (x .floats) (k .1 .1 .1 .1 .1 .1 .0) (w .floats) i;
-      words = front-is {A = ℕ} (n .words) 40960 7 (x .words) (k .1 .1 .1 .1 .1 .1 .1 .0) (w .words) i;
+      words = front-is {A = ℕ} (n .words) 45056 7 (x .words) (k .1 .1 .1 .1 .1 .1 .1 .0) (w .words) i;
       drawing =
           record {
             indices = front-is {A = ℕ} (n .indices) 12288 7 (x .drawing .indices) (k .1 .1 .1 .1 .1 .1 .1 .1 .0) (w .indices) i;

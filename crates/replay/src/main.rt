@@ -2,7 +2,7 @@
 ghost use mathlib.Core.Path.{_≡_};
 ghost use Prim.Native.Nat.{_≤_};
 ghost use lib.ListN.{length};
-ghost use Rattle.trace.specs.Header.{lengthsOf, Within};
+ghost use Rattle.trace.specs.Header.{headerSize, lengthsOf, Within};
 ghost use Rattle.player.specs.Ops.{areasOf};
 ghost use Rattle.player.specs.Play.{portOf, played};
 ghost use Rattle.player.specs.Replay.{replayed};
@@ -25,12 +25,12 @@ fn play(
     indices: &mut [u32],
     runs: &mut [u32],
 ) -> State
-    requires { ⌜ (44 ≤ length (now s)) × (length (now s) ≤ 262144) ⌝ }
+    requires { ⌜ (headerSize (now s) ≤ length (now s)) × (length (now s) ≤ 262144) ⌝ }
     ensures { λ r. ⌜ portOf r (areasOf (now (matrices .exit)) (now (viewports .exit)) (now (scales .exit)) (now (lights .exit)) (now (lookats .exit)) (now (fogs .exit)) (now (floats .exit)) (now (words .exit)) (now (indices .exit)) (now (runs .exit))) ≡ played (now (s .entry)) own (areasOf (now (matrices .entry)) (now (viewports .entry)) (now (scales .entry)) (now (lights .entry)) (now (lookats .entry)) (now (fogs .entry)) (now (floats .entry)) (now (words .entry)) (now (indices .entry)) (now (runs .entry))) ⌝ }
 {
     let mut lent = own;
     let mut g = player::apply::unopened();
-    let mut at = trace::rooms::HEADER;
+    let mut at = trace::header::size_of(s);
     let mut i = 0;
     while at < s.len() {
         let c = trace::script::call_at(trace::ops::shape_of(s[at]), s, at);
@@ -99,7 +99,7 @@ fn finish(
 
 // Makes the areas, each number 7, runs the script over them, and dumps what is left.
 fn replay(s: &[u8], own: Lengths)
-    requires { ⌜ (44 ≤ length (now s)) × ((length (now s) ≤ 262144) × (Within own × (own ≡ lengthsOf (now s)))) ⌝ }
+    requires { ⌜ (headerSize (now s) ≤ length (now s)) × ((length (now s) ≤ 262144) × (Within own × (own ≡ lengthsOf (now s)))) ⌝ }
 {
     let mut matrices = [7.0f32; trace::rooms::MATRICES];
     let mut viewports = [7.0f32; trace::rooms::VIEWPORTS];
@@ -157,12 +157,12 @@ fn judge(s: &[u8]) {
         show::too_long(trace::rooms::SCRIPT);
         return;
     }
-    if s.len() < trace::rooms::HEADER {
+    if s.len() < trace::header::size_of(s) {
         show::text(b"replay: the header is cut short\n");
         return;
     }
     if !trace::header::is_trace(s) {
-        show::text(b"replay: the header does not begin with GST1\n");
+        show::text(b"replay: the header begins with neither GST1 nor GST2\n");
         return;
     }
     let own = trace::header::lengths_of(s);

@@ -1,25 +1,43 @@
--- The header: the lengths that it asks for, and which of them are served. Definitions only.
-use Prim.Native.Nat.{ℕ, _≤_}
-use mathlib.Core.Bool.{Bool}
+-- The header: of which kind and length it is, the lengths that it asks for, and which of them are served. Definitions only.
+use Prim.Native.Nat.{ℕ, _+_, _≤_}
+use mathlib.Core.Bool.{Bool, _||_}
 use mathlib.Core.List.{List, [], _∷_}
-use lib.Dec.{leb}
+use lib.Dec.{eqb, leb}
+use Rattle.numbers.specs.Choice.{pick}
 use Rattle.trace.specs.declared.rooms.Lengths.{Lengths}
 use Rattle.trace.specs.Script.{wordAt}
 
--- the ten words after the four letters
+-- whether it begins with GST2
+unfoldable pub isSecond : List ℕ → Bool
+isSecond s = eqb (wordAt s 0) 0x32545347
+
+-- whether it begins with GST1 or GST2
+unfoldable pub isTrace : List ℕ → Bool
+isTrace s = eqb (wordAt s 0) 0x31545347 || isSecond s
+
+-- how many bytes it has: GST1 and ten lengths, or GST2, the requests and thirteen lengths
+unfoldable pub headerSize : List ℕ → ℕ
+headerSize s = pick (isSecond s) 60 44
+
+-- the word at which the lengths begin: behind GST2 the requests stand before them
+unfoldable pub firstLength : List ℕ → ℕ
+firstLength s = pick (isSecond s) 2 1
+
+-- the lengths of the ten areas
 abbrev pub lengthsOf : List ℕ → Lengths
 lengthsOf s =
+    let k = firstLength s in
     record {
-      matrices = wordAt s 1;
-      viewports = wordAt s 2;
-      scales = wordAt s 3;
-      lights = wordAt s 4;
-      lookats = wordAt s 5;
-      fogs = wordAt s 6;
-      floats = wordAt s 7;
-      words = wordAt s 8;
-      indices = wordAt s 9;
-      runs = wordAt s 10;
+      matrices = wordAt s k;
+      viewports = wordAt s (k + 1);
+      scales = wordAt s (k + 2);
+      lights = wordAt s (k + 3);
+      lookats = wordAt s (k + 4);
+      fogs = wordAt s (k + 5);
+      floats = wordAt s (k + 6);
+      words = wordAt s (k + 7);
+      indices = wordAt s (k + 8);
+      runs = wordAt s (k + 9);
     }
 
 -- the bounds of the format
@@ -31,7 +49,7 @@ pub record Within (l : Lengths) : Type 0 where
   pub lookats : l .lookats ≤ 6144
   pub fogs : l .fogs ≤ 1024
   pub floats : l .floats ≤ 36864
-  pub words : l .words ≤ 40960
+  pub words : l .words ≤ 45056
   pub indices : l .indices ≤ 12288
   pub runs : l .runs ≤ 16384
 
@@ -45,7 +63,7 @@ withinTests l =
     ∷ leb (l .lookats) 6144
     ∷ leb (l .fogs) 1024
     ∷ leb (l .floats) 36864
-    ∷ leb (l .words) 40960
+    ∷ leb (l .words) 45056
     ∷ leb (l .indices) 12288
     ∷ leb (l .runs) 16384
     ∷ []

@@ -3,8 +3,11 @@
 // A script has at most this many bytes, its header among them.
 pub const SCRIPT: usize = 262144;
 
-// The header: four letters and ten lengths.
-pub const HEADER: usize = 44;
+// The header GST1: four letters and ten lengths.
+pub const FIRST_HEADER: usize = 44;
+
+// The header GST2: four letters, the requests and thirteen lengths.
+pub const SECOND_HEADER: usize = 60;
 
 // The areas have at most these many numbers.
 pub const MATRICES: usize = 8192;
@@ -21,7 +24,7 @@ pub const FOGS: usize = 1024;
 
 pub const FLOATS: usize = 36864;
 
-pub const WORDS: usize = 40960;
+pub const WORDS: usize = 45056;
 
 pub const INDICES: usize = 12288;
 

@@ -13,6 +13,9 @@ too-long-requires c κs = search needs
 returns : tie.Need-returns
 returns c = search needs
 
+size-of-requires : tie.Need-size-of-requires
+size-of-requires c κs = search needs
+
 slice-aggregate-text : tie.Need-slice-aggregate-text
 slice-aggregate-text c = search needs
 
@@ -61,6 +64,7 @@ judge-spec =
     (tie.spec
     too-long-requires
     returns
+    size-of-requires
     slice-aggregate-text
     text-requires
     returns-2

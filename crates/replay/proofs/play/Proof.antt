@@ -3,12 +3,13 @@ use native.Mathlib.Omega.{arith}
 use Prim.Native.Nat.{_≤_, _-_}
 use lib.ListN.{length}
 use denote.Ref.{now}
-use mathlib.Core.Path.{refl, ap, _∙_}
+use mathlib.Core.Path.{refl, sym, ap, _∙_}
 use mathlib.Core.Logic.{⊎-elim}
 use borrow.Author.Tests.{not-true, not-false}
 use Rattle.stage.specs.declared.State.{State}
 use Rattle.sequence.specs.Sequence.{Areas, Port, Alike}
 use Rattle.trace.specs.declared.ops.Shape.{Shape}
+use Rattle.trace.specs.Header.{headerSize}
 use Rattle.trace.specs.Script.{callAt}
 use Rattle.player.specs.Ops.{areasOf}
 use Rattle.player.specs.Play.{portOf, playFrom}
@@ -20,7 +21,7 @@ use Rattle.replay.proofs.play.Tie as tie
 
 abbrev Inv-loop : tie.InvT-loop
 Inv-loop s matrices₀ viewports₀ scales₀ lights₀ lookats₀ fogs₀ floats₀ words₀ indices₀ runs₀ lent₀ g₀ at₀ i₀ matrices viewports scales lights lookats fogs floats words indices runs lent g at i =
-    (at ≤ length s) × ((i ≤ at) × (Left s at lent (portOf (g .state) (areasOf matrices viewports scales lights lookats fogs floats words indices runs)) (playFrom (length s) s at₀ lent₀ (portOf (g₀ .state) (areasOf matrices₀ viewports₀ scales₀ lights₀ lookats₀ fogs₀ floats₀ words₀ indices₀ runs₀))) × Alike (areasOf matrices viewports scales lights lookats fogs floats words indices runs) (areasOf matrices₀ viewports₀ scales₀ lights₀ lookats₀ fogs₀ floats₀ words₀ indices₀ runs₀)))
+    Left s at lent (portOf (g .state) (areasOf matrices viewports scales lights lookats fogs floats words indices runs)) (playFrom (length s) s (headerSize s) lent₀ (portOf (g₀ .state) (areasOf matrices₀ viewports₀ scales₀ lights₀ lookats₀ fogs₀ floats₀ words₀ indices₀ runs₀))) × ((at ≤ length s) × ((i ≤ at) × Alike (areasOf matrices viewports scales lights lookats fogs floats words indices runs) (areasOf matrices₀ viewports₀ scales₀ lights₀ lookats₀ fogs₀ floats₀ words₀ indices₀ runs₀)))
 
 abbrev μ-loop : tie.MeasureT-loop
 μ-loop s matrices₀ viewports₀ scales₀ lights₀ lookats₀ fogs₀ floats₀ words₀ indices₀ runs₀ lent₀ g₀ at₀ i₀ matrices viewports scales lights lookats fogs floats words indices runs lent g at i = length s - at
@@ -40,7 +41,7 @@ abbrev tested : tie.After-call-at Inv-loop μ-loop → tie.In-loop Inv-loop μ-l
 tested c = c .before .before .before
 
 abbrev start : tie.At-loop Inv-loop μ-loop → tie.Start Inv-loop μ-loop
-start c = c .before .before .before .before .before .before .before .before .before .before .before .before
+start c = c .before .before .before .before .before .before .before .before .before .before .before .before .before
 
 -- ---- the areas and what they are to come to, by name: left to be found they cost most of this proof
 
@@ -65,15 +66,18 @@ areas-next x =
 abbrev comes-to : tie.At-loop Inv-loop μ-loop → State → Port
 comes-to o g =
     let a = start o .args in
-    playFrom (length (now (a .s))) (now (a .s)) 44 (a .own) (portOf g (areas-first o))
+    playFrom (length (now (a .s))) (now (a .s)) (headerSize (now (a .s))) (a .own) (portOf g (areas-first o))
 
 -- ---- the needs
 
 unopened-requires : tie.Need-unopened-requires Inv-loop μ-loop
 unopened-requires c κs = search needs
 
+size-of-requires : tie.Need-size-of-requires Inv-loop μ-loop
+size-of-requires c κs = search needs
+
 loop-holds : tie.Need-loop-holds Inv-loop μ-loop
-loop-holds c = (omega arith, (omega arith, (all-left _ _ _ _, record { matrices = refl; viewports = refl; scales = refl; lights = refl; lookats = refl; fogs = refl; floats = refl; words = refl; indices = refl; runs = refl })))
+loop-holds c = (rw (sym (c .size-of .ensures)) (all-left _ _ _ _), (omega arith, (omega arith, record { matrices = refl; viewports = refl; scales = refl; lights = refl; lookats = refl; fogs = refl; floats = refl; words = refl; indices = refl; runs = refl })))
 
 shared-slice-read-shape-of : tie.Need-shared-slice-read-shape-of Inv-loop μ-loop
 shared-slice-read-shape-of c = search needs
@@ -106,7 +110,7 @@ add-i : tie.Need-add-i Inv-loop μ-loop
 add-i c =
     let k = read (whole (stepped c)) in
     let o = tested k .before in
-    record { fits = omega (arith, o .loop .inv .1 .0, k .call-at .ensures .1 .past, k .call-at .ensures .1 .inside, start o .pre .1) }
+    record { fits = omega (arith, o .loop .inv .1 .1 .0, k .call-at .ensures .1 .past, k .call-at .ensures .1 .inside, start o .pre .1) }
 
 loop-less : tie.Need-loop-less Inv-loop μ-loop
 loop-less c =
@@ -121,8 +125,8 @@ loop-again c =
     let o = tested k .before in
     let v = o .loop .inv in
     let e = k .call-at .ensures .0 ∙ ap (λ (h : Shape). callAt h (now (start o .args .s)) (o .loop .at)) (k .before .shape-of .ensures) in
-    let l = left-behind (now (start o .args .s)) (o .loop .at) (o .loop .lent) (port-at o) (comes-to o (o .before .unopened .result .state)) (k .call-at .result) (x .step .result) (c .before .before .lent-after .result) (areas-next x) (tested k .loop-test .taken) e (not-false _ (w .if1 .left)) (k .call-at .ensures .1 .past) (x .step .ensures) (c .before .before .lent-after .ensures) (v .1 .1 .0) in
-    (k .call-at .ensures .1 .inside, (omega (arith, k .call-at .ensures .1 .past, v .1 .0), (l, still-alike (areas-next x) (areas-at o) (areas-first o) (x .step .kept .1 .1 .1 .1) (v .1 .1 .1))))
+    let l = left-behind (now (start o .args .s)) (o .loop .at) (o .loop .lent) (port-at o) (comes-to o (o .before .before .unopened .result .state)) (k .call-at .result) (x .step .result) (c .before .before .lent-after .result) (areas-next x) (tested k .loop-test .taken) e (not-false _ (w .if1 .left)) (k .call-at .ensures .1 .past) (x .step .ensures) (c .before .before .lent-after .ensures) (v .0) in
+    (l, (k .call-at .ensures .1 .inside, (omega (arith, k .call-at .ensures .1 .past, v .1 .1 .0), still-alike (areas-next x) (areas-at o) (areas-first o) (x .step .kept .1 .1 .1 .1) (v .1 .1 .1))))
 
 same-length : tie.Need-same-length Inv-loop μ-loop
 same-length c = c .before .before .loop .inv .1 .1 .1 .matrices
@@ -159,12 +163,12 @@ returns c =
     let o = c .before .before in
     let l = o .loop in
     let s = now (start o .args .s) in
-    let g = o .before .unopened in
+    let g = o .before .before .unopened in
     _∙_
     {b = comes-to o (g .result .state)}
     (⊎-elim
-    (λ h. ended s (l .at) (l .lent) (port-at o) (comes-to o (g .result .state)) (h .left) (l .inv .1 .1 .0))
-    (λ h. cut s (l .at) (l .lent) (port-at o) (comes-to o (g .result .state)) (h .3 .result) (h .3 .ensures .0 ∙ ap (λ (x : Shape). callAt x s (l .at)) (h .2 .ensures)) (not-true _ (h .5 .taken)) (l .inv .1 .1 .0))
+    (λ h. ended s (l .at) (l .lent) (port-at o) (comes-to o (g .result .state)) (h .left) (l .inv .0))
+    (λ h. cut s (l .at) (l .lent) (port-at o) (comes-to o (g .result .state)) (h .3 .result) (h .3 .ensures .0 ∙ ap (λ (x : Shape). callAt x s (l .at)) (h .2 .ensures)) (not-true _ (h .5 .taken)) (l .inv .0))
     (c .before .loop-test .came))
     (ap (comes-to o) (g .ensures))
 
@@ -175,6 +179,7 @@ play-spec =
     Inv-loop
     μ-loop
     unopened-requires
+    size-of-requires
     loop-holds
     shared-slice-read-shape-of
     shape-of-requires
