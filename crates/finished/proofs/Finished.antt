@@ -33,12 +33,12 @@ use Rattle.sequence.proofs.Opened.{opened-book, opened-alike, open-book, open-r
 use Rattle.finished.specs.Shown.{Triangle, triangleOf}
 use Rattle.finished.specs.Bench.{Bench, bench0, noCorner, moved, turns, pops, modifies, withTriangle, given, draws, act, bench}
 use Rattle.finished.specs.Statement.{after, beside, recorded, noTriangle, gave, Stands, Finished, Demand3, OneRun, RunOf}
-use Rattle.finished.specs.Inked.{inkedIn, InkTells}
+use Rattle.finished.specs.Inked.{inkedIn, InkTells, InkStays}
 use Rattle.finished.proofs.Lists.{Longer, same, with-more, longer-length, longer-at, none-marked, pick-case, pick-false}
 use Rattle.finished.proofs.Ties.{settingsOf, Inv}
 use Rattle.finished.proofs.Keeps.{Keeps, keeps}
 use Rattle.finished.proofs.Owned.{tiled-one, own, own-held, own-settings}
-use Rattle.finished.proofs.Inked.{standing-ink}
+use Rattle.finished.proofs.Inked.{inked-longer, standing-ink}
 
 module _ (F : ℕ → Family) (limit : State → ℕ) where
   -- ---- which commands are accepted
@@ -116,6 +116,14 @@ module _ (F : ℕ → Family) (limit : State → ℕ) where
   unfolding bench
   bench-append [] ds h = refl
   bench-append (c ∷ cs) ds h = bench-append cs ds (act F c h)
+
+  -- what is given by cs is given by whatever goes on from it
+  later-longer : (seats : ℕ) (l : Areas) (cs ds : List Command) → Longer (beside F (plan F limit) seats l cs .triangles) (beside F (plan F limit) seats l (cs ++ ds) .triangles)
+  later-longer seats l cs ds =
+      let more : List Command = accepted (plan F limit) ds (after (plan F limit) l cs) in
+      let e : beside F (plan F limit) seats l (cs ++ ds) ≡ bench F more (beside F (plan F limit) seats l cs) =
+      ap (λ (c : List Command). bench F c (bench0 seats)) (accepted-append cs ds (opening l)) ∙ bench-append (accepted (plan F limit) cs (opening l)) more (bench0 seats) in
+      rw e (bench-longer more (beside F (plan F limit) seats l cs))
 
   -- ---- the invariant, through a sequence
 
@@ -310,10 +318,7 @@ module _ (F : ℕ → Family) (limit : State → ℕ) where
     stands-later : (l : Areas) → Opens l → (cs ds : List Command) (n : ℕ) → n < length (beside F (plan F limit) seats l cs .triangles)
         → Stands (after (plan F limit) l (cs ++ ds)) n (gave (beside F (plan F limit) seats l cs) n)
     stands-later l o cs ds n h =
-        let more : List Command = accepted (plan F limit) ds (after (plan F limit) l cs) in
-        let e : beside F (plan F limit) seats l (cs ++ ds) ≡ bench F more (beside F (plan F limit) seats l cs) =
-        ap (λ (c : List Command). bench F c (bench0 seats)) (accepted-append cs ds (opening l)) ∙ bench-append (accepted (plan F limit) cs (opening l)) more (bench0 seats) in
-        let w : Longer (beside F (plan F limit) seats l cs .triangles) (beside F (plan F limit) seats l (cs ++ ds) .triangles) = rw e (bench-longer more (beside F (plan F limit) seats l cs)) in
+        let w : Longer (beside F (plan F limit) seats l cs .triangles) (beside F (plan F limit) seats l (cs ++ ds) .triangles) = later-longer seats l cs ds in
         let m : n < length (beside F (plan F limit) seats l (cs ++ ds) .triangles) = omega (arith, longer-length w) in
         record {
           in-use = rw (recorded-is l (cs ++ ds)) m;
@@ -378,3 +383,7 @@ finished F limit seats inside few x y e cs ds es n = both-stand F limit seats in
 -- AN INK COUNT TELLS OF WHAT WAS DRAWN
 pub ink-tells : InkTells
 ink-tells F limit seats inside few l cs colour h = inks-told F limit seats inside few l cs colour h
+
+-- WHAT WAS COUNTED STAYS COUNTED
+pub ink-stays : InkStays
+ink-stays F limit seats l cs ds colour = inked-longer colour (later-longer F limit seats l cs ds)

@@ -3,7 +3,7 @@ use mathlib.Core.Path.{_≡_, refl, sym, ap, _∙_}
 use Prim.Native.Nat.{ℕ, zero, suc, _+_, _*_, _≤_, _<_}
 use native.Mathlib.Omega.{arith}
 use mathlib.Core.Bool.{Bool, false, _&&_}
-use mathlib.Core.List.{List, [], _∷_, map}
+use mathlib.Core.List.{List, [], _∷_, _++_, map}
 use lib.ListN.{length, getD, take, drop, length-map, length-drop, List·getD-map}
 use lib.Dec.{eqb}
 use lib.Ieee.{Float}
@@ -15,6 +15,7 @@ use Rattle.stage.specs.Plan.{Row, rowWords}
 use Rattle.finished.specs.Shown.{Corner, Triangle, Entries, rowWord, shownBy, shown, noRow, named, cornerOf, triangleOf}
 use Rattle.finished.specs.Statement.{noTriangle}
 use Rattle.finished.specs.Inked.{empty, inkedAs, inkedIn}
+use Rattle.finished.proofs.Lists.{Longer}
 use Rattle.finished.proofs.Growing.{Sound}
 use Rattle.finished.proofs.Standing.{Columns, Standing}
 
@@ -61,6 +62,15 @@ sum-ink colour rows (a ∷ b ∷ c ∷ es) (T ∷ Ts) corner e f g =
     sum-ink colour rows es Ts later (omega arith) (λ i h. f (suc (suc (suc i))) (omega arith))
     (λ n h. g (suc n) (omega arith) ∙ rw (next n 1, next n 2, first n)) in
     rw (g 0 (omega arith), f 0 (omega arith), f 1 (omega arith), f 2 (omega arith), I) (omega arith)
+
+-- triangles one behind the other count as the sum
+inked-sum : (colour : ℕ) (Ts Us : List Triangle) → inkedIn colour (Ts ++ Us) ≡ inkedIn colour Ts + inkedIn colour Us
+inked-sum colour [] Us = omega arith
+inked-sum colour (T ∷ Ts) Us = rw (inked-sum colour Ts Us) (omega arith)
+
+-- where a list of triangles goes on, no fewer are counted
+pub inked-longer : (colour : ℕ) {Ts Us : List Triangle} → Longer Ts Us → inkedIn colour Ts ≤ inkedIn colour Us
+inked-longer colour {Ts} {Us} w = rw (w .is, inked-sum colour Ts (w .more)) (omega arith)
 
 -- WHAT IS COUNTED over the rows and the indices is what the bench gave
 pub standing-ink : {seats : ℕ} {t : Entries} {rows : List Row} {indices runs : List (List ℕ)} {s : Columns} {l : List Corner} {Ts : List Triangle} (colour : ℕ)

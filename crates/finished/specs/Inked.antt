@@ -2,7 +2,7 @@
 use Prim.Native.Nat.{ℕ, _+_, _≤_}
 use mathlib.Core.Path.{_≡_}
 use mathlib.Core.Bool.{Bool, true, false, _&&_}
-use mathlib.Core.List.{List, [], _∷_}
+use mathlib.Core.List.{List, [], _∷_, _++_}
 use lib.Dec.{eqb}
 use Rattle.decide.specs.declared.family.Family.{Family}
 use Rattle.stage.specs.declared.State.{State}
@@ -38,3 +38,9 @@ InkTells =
     → let p = after (plan F limit) l cs in
     isDone (plan F limit (ink colour) (book p)) ≡ true
     → result (plan F limit) (ink colour) p .values ≡ inkedIn colour (beside F (plan F limit) seats l cs .triangles) ∷ []
+
+-- WHAT WAS COUNTED STAYS COUNTED: whatever commands ds come after cs, refused ones included, no fewer corners are inked
+abbrev pub InkStays : Type 0
+InkStays =
+    (F : ℕ → Family) (limit : State → ℕ) (seats : ℕ) (l : Areas) (cs ds : List Command) (colour : ℕ)
+    → inkedIn colour (beside F (plan F limit) seats l cs .triangles) ≤ inkedIn colour (beside F (plan F limit) seats l (cs ++ ds) .triangles)
