@@ -4,6 +4,7 @@ import struct
 import bytes_of
 import model
 import tracefile
+from floats import f32
 from tracefile import WIDTHS, Op
 
 ROOMY = [n * w for n, w in zip((40, 8, 8, 40, 8, 4, 300, 300, 60, 8), WIDTHS)]
@@ -37,9 +38,44 @@ def entries(table, n):
     return lengths
 
 
+def matrix(flags, numbers):
+    return op("matrix", flags, data=bytes_of.matrix(numbers))
+
+
+def force(numbers):
+    return op("force", data=bytes_of.matrix(numbers))
+
+
 def pushes(n):
     """n pushes of matrices that all differ."""
-    return [op("matrix", 3, data=bytes_of.matrix(bytes_of.diagonal(1, 1, 1, k + 2))) for k in range(n)]
+    return [matrix(3, bytes_of.diagonal(1, 1, 1, k + 2)) for k in range(n)]
+
+
+def both_signs(sizes):
+    """Matrix entries of these sizes in 65536ths."""
+    return [sign * n / 65536 for n in sizes for sign in (1, -1)]
+
+
+# From the highest 1 to the lowest 24 binary digits, above a power of 2 and below one, or a single digit; then 25 and more.
+EXACT = ([0, -32768] + both_signs((1 << k) + (1 << k - 23) for k in range(24, 31)),
+         both_signs((1 << k) - (1 << k - 24) for k in range(24, 32)), both_signs(1 << k for k in range(0, 31, 4)))
+INEXACT = (both_signs([(1 << k) + (1 << k - 24) for k in range(24, 31)] + [(1 << 30) + 1]),
+           both_signs([(1 << k) - (1 << k - 25) for k in range(25, 32)] + [(1 << 31) - 1]))
+
+
+def inexact_at(places):
+    return [INEXACT[0][k] if k in places else EXACT[0][k] for k in range(16)]
+
+
+def told(first, name, numbers):
+    """The answers to commands in a row."""
+    return [f"{first + k} {name} 0 {n}" for k, n in enumerate(numbers)]
+
+
+def read_as_both(given, numbers):
+    """Each given matrix loaded, then each forced; of both these numbers are told."""
+    return ([op("open")] + [matrix(2, m) for m in given] + [force(m) for m in given],
+            told(1, "matrix", numbers) + told(1 + len(given), "force", numbers))
 
 
 START = [op("open"), op("matrix", 2, data=IDENTITY)]
@@ -52,8 +88,8 @@ HALF_LIT = [op("open"), load(0, (0, 0, 0)), op("geom", 0, 0x20000), load(1, (0, 
             op("draw", 0, 1, 2, *DRAW), op("ink", 0x04030201), op("ink", 0)]
 # name: commands after which the output has these lines; the areas are ROOMY unless said.
 CASES = {
-    "01-entries": (START + [op("force", data=bytes_of.matrix([1.5, -0.5, 32767 + 65535 / 65536] + [0] * 13))],
-                   ["t1 1 " + " ".join(map(F32, [1.5, -0.5, 32768.0] + [0.0] * 13))]),
+    "01-entries": (START + [force([1.5, -0.5, 32767 + 65535 / 65536] + [0] * 13)],
+                   ["2 force 0 1", "t1 1 " + " ".join(map(F32, [1.5, -0.5, 32768.0] + [0.0] * 13))]),
     "02-colour": (START + [load(0, (0, 0, 0)), op("modify", 0, 0x10, 0x11223344), op("draw", 0, 0, 0, *DRAW),
                            op("ink", 0x44332211)], ["5 ink 0 3"]),
     "03-texture": (START + [load(0, (0, 0, 0)), op("modify", 0, 0x14, 0xFFE00040)],
@@ -89,14 +125,36 @@ CASES = {
     "load-256-from-1": (START + [many(1, 256)], ["2 load 1 256 1", "counts 1 1 0 0 0 0 0 0 0"]),
     "load-0-from-256": (START + [many(256, 0)], ["2 load 0 0", "counts 1 1 1 0 0 0 0 0 0"]),
     "load-0-from-257": (START + [many(257, 0)], ["2 load 1 0 257"]),
-    "push-31": ([op("open")] + pushes(31), ["31 matrix 0", "counts 32 1 0 0 0 0 0 0 0", "state 32 0 0 1 0 0 0 0 0 0 0 0"]),
-    "push-32": ([op("open")] + pushes(32), ["32 matrix 0", "counts 33 1 0 0 0 0 0 0 0", "state 32 0 0 1 0 0 0 0 0 0 0 0"]),
+    "push-31": ([op("open")] + pushes(31), ["31 matrix 0 0", "counts 32 1 0 0 0 0 0 0 0", "state 32 0 0 1 0 0 0 0 0 0 0 0"]),
+    "push-32": ([op("open")] + pushes(32), ["32 matrix 0 0", "counts 33 1 0 0 0 0 0 0 0", "state 32 0 0 1 0 0 0 0 0 0 0 0"]),
     "notice": ([op("open"), load(0, (0, 0, 0)), load(0, (0, 0, 0))], ["1 load 0 1", "2 load 0 1"]),
     "microcode-still-draws": (CORNERS + [op("ucode", 1), op("draw", 0, 1, 2, *DRAW), op("cull", 0, 2)],
                               ["6 draw 0", "7 cull 3 0", "t9 0 0 0 0 0 0 1 0 3"]),
 }
+FIVE = inexact_at(range(5))
+AS_READ = [f32(x) for x in FIVE]
+THREE = bytes_of.diagonal(*[256 + 1 / 65536] * 3, 1)
+# How many entries of a matrix are inexact is told where it is read, whatever becomes of it.
+ROUNDED = {
+    "inexact-none": read_as_both(EXACT, [0] * 3),
+    "inexact-all": read_as_both(INEXACT, [16] * 2),
+    "inexact-count": read_as_both([inexact_at(range(n)) for n in range(17)], range(17)),
+    "inexact-one": read_as_both([inexact_at([k]) for k in range(16)], [1] * 16),
+    "inexact-flags": ([op("open")] + [matrix(flags, THREE) for flags in (*range(8), 255)], told(1, "matrix", [3] * 9)),
+    "inexact-not-appended": ([op("open"), matrix(2, FIVE), matrix(2, FIVE), matrix(2, AS_READ), force(AS_READ), force(FIVE), matrix(6, [0] * 16),
+                              matrix(3, INEXACT[0])],
+                             told(1, "matrix", (5, 5, 0)) + told(4, "force", (0, 5)) + told(6, "matrix", (0, 16)) + ["counts 3 1 0 0 0 0 0 0 0"]),
+    "inexact-pop": ([op("open"), matrix(3, FIVE), matrix(3, INEXACT[0]), op("pop", 1), op("pop", 0), op("pop", 9)],
+                    told(1, "matrix", (5, 16)) + ["3 pop 0", "4 pop 0", "5 pop 0"]),
+}
 # name: lengths, commands, lines.
 TIGHT = {
+    "inexact-refused": (entries(1, 2), [op("open"), matrix(2, FIVE), matrix(7, INEXACT[0]), matrix(3, INEXACT[0]), force(INEXACT[0]), matrix(2, FIVE),
+                                        op("matrix", 3, data=bytes(63)), op("force", data=bytes(63)), op("lend", 0, 31), matrix(3, FIVE), force(FIVE),
+                                        op("lend", 0, 32), op("poke", 0, 0, 0), matrix(3, FIVE), force(FIVE), op("poke", 0, 0, 1), force(FIVE)],
+                        ["1 matrix 0 5", "2 matrix 9 1", "3 matrix 9 1", "4 force 9 1", "5 matrix 0 5", "6 matrix 7 64", "7 force 7 64", "9 matrix 8 1",
+                         "10 force 8 1", "13 matrix 10", "14 force 10", "16 force 0 5", "counts 2 1 0 0 0 0 0 0 0", "state 1 0 0 1 0 0 0 0 0 0 0 0",
+                         "stack 0 " + " ".join(map(F32, AS_READ)), "proj " + " ".join(map(F32, bytes_of.diagonal(1, 1, 1, 1)))]),
     "rows-fit": (entries(7, 3), CORNERS, ["4 load 0 0", "counts 1 1 1 0 0 0 3 0 0"]),
     "one-row-short": (entries(7, 2), CORNERS, ["4 load 9 7", "counts 1 1 1 0 0 0 2 0 0"]),
     "one-number-short": ([n - 1 if a == 6 else n for a, n in enumerate(entries(7, 3))], CORNERS, ["4 load 9 7"]),
@@ -129,7 +187,7 @@ def far_away(column):
 
 DRAWN = CORNERS + [op("draw", 0, 1, 2, *DRAW)]                                  # six commands
 LIT = START + [op("geom", 0, 0xF0000), load(0, (0, 0, 1)), op("light", 1, data=bytes(11)), op("lookat", 0, data=bytes(11)),
-               op("fog", 1, 1), op("texture", 0, 0, 0, 9, 9), op("force", data=bytes_of.matrix([2.0] * 16)), op("ucode", 0)]
+               op("fog", 1, 1), op("texture", 0, 0, 0, 9, 9), force([2.0] * 16), op("ucode", 0)]
 CULLED = op("geom", 0, 0x600)
 FRONT = op("geom", 0, 0x200)
 WRONG_RUN = op("write", 9, 6, 1)
@@ -184,7 +242,7 @@ ORDER = {
                                                     op("lend", 9, 64), op("draw", 0, 1, 2, *DRAW), op("lend", 9, 0), op("lend", 6, 90), op("lend", 7, 90),
                                                     op("ink", 0), op("lend", 7, 0), op("lend", 0, 16), op("force", data=IDENTITY), op("pop", 0),
                                                     op("matrix", 2, data=IDENTITY), op("lend", 0, 0), op("lend", 1, 6), op("viewport", data=bytes(16))],
-                          ["9 load 0 0", "10 pop 0", "11 modify 0", "24 draw 0", "28 ink 0 1", "31 force 0", "32 pop 0", "33 matrix 0", "36 viewport 0"]),
+                          ["9 load 0 0", "10 pop 0", "11 modify 0", "24 draw 0", "28 ink 0 1", "31 force 0 0", "32 pop 0", "33 matrix 0 0", "36 viewport 0"]),
     "open-least": (short(0, 1) + [op("open"), op("lend", 0, 16), op("open"), op("lend", 1, 6), op("open"), *short(0), op("open")],
                    ["2 open 9 1", "4 open 9 2", "6 open 0", "8 open 9 1", "open 0"]),
     "open-again": (DRAWN + [op("open"), op("draw", 0, 1, 2, *DRAW)], ["6 open 0", "7 draw 6 0", "counts 1 1 0 0 0 0 0 0 0"]),
@@ -215,9 +273,17 @@ ACTS = {
     "pokes-by-low-bits": (DRAWN + [op("poke", 0, 0, 2), op("geom", 0, 0), op("poke", 0, 0, 3), op("geom", 0, 0), op("poke", 4, 0x103, 2),
                                    op("draw", 3, 3, 3, *DRAW)], ["7 geom 10", "9 geom 0", "11 draw 0", "t8 3 2", "slot 3 2 0 1 - -"]),
 }
-ALL = {**{name: (ROOMY, *case) for name, case in (CASES | ORDER | ACTS).items()}, **TIGHT}
-# Under GST2: the word of requests, the lengths past the areas'.
-SECOND = {name: (1 << 1 | 1 << 5 | 1 << 9, (512, 2304, 1024)) for name in ("14-lit-and-unlit", "15-recoloured", "second-header")}
+ALL = {**{name: (ROOMY, *case) for name, case in (CASES | ROUNDED | ORDER | ACTS).items()}, **TIGHT}
+
+
+def made_for(*requests):
+    """What a second header has beside the areas' lengths: the word of requests, three lengths."""
+    return sum(1 << k - 1 for k in requests), (512, 2304, 1024)
+
+
+# Under GST2.
+SECOND = {**{name: made_for(2, 6, 10) for name in ("14-lit-and-unlit", "15-recoloured", "second-header")},
+          **{name: made_for(2, 6, 9, 10) for name in ("inexact-count", "inexact-not-appended")}}
 
 
 def scripts():

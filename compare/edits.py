@@ -182,6 +182,38 @@ EDITS = (
      "return row[15] < 2 and row[13] == colour", "ink: corners under the ambient light alone counted"),
     (MODEL, "return row[15] == 0 and row[13] == colour",
      "return row[14] == row[15] == 0 and row[13] == colour", "ink: the first light looked at besides"),
+    (MODEL, "for e in entries_of(data) if not", "for e in entries_of(data)[:15] if not", "inexact: the last entry not counted"),
+    (MODEL, "for e in entries_of(data) if not", "for e in entries_of(data)[1:] if not", "inexact: the first entry not counted"),
+    (MODEL, "if not is_exact(e)", "if is_exact(e)", "inexact: exact entries counted"),
+    (MODEL, "if not is_exact(e)", "if not is_exact(e % 2**32)", "inexact: the sign forgotten"),
+    (MODEL, "size.bit_length() - 24", "size.bit_length() - 25", "inexact: 25 digits held"),
+    (MODEL, "size.bit_length() - 24", "size.bit_length() - 23", "inexact: 23 digits held"),
+    (MODEL, "size.bit_length() - 24", "abs(entry >> 16).bit_length() - 8", "inexact: the whole part below 0 rounded down"),
+    (MODEL, "return size % (1 << max(0, size.bit_length() - 24)) == 0", "return size < 1 << 24", "inexact: zeros at the end not passed over"),
+    (MODEL, "return size % (1 <<", "return size < 1 << 31 and size % (1 <<", "inexact: -32768 taken for it"),
+    (MODEL, "return size % (1 <<", "return size > 0 and size % (1 <<", "inexact: 0 taken for it"),
+    (MODEL, "list(top)\n    return (inexact(data),)", "list(top)\n    return (0 if flags & 4 else inexact(data),)", "matrix: a projection tells 0"),
+    (MODEL, "list(top)\n    return (inexact(data),)", "list(top)\n    return (inexact(data) if flags & 2 else 0,)", "matrix: a product tells 0"),
+    (MODEL,
+     "    set_combined(s, areas, product(top, proj))\n"
+     "    s.depth, s.proj = depth, proj\n"
+     "    s.stack[depth - 1] = list(top)\n"
+     "    return (inexact(data),)",
+     "    before = s.counts[1]\n"
+     "    set_combined(s, areas, product(top, proj))\n"
+     "    s.depth, s.proj = depth, proj\n"
+     "    s.stack[depth - 1] = list(top)\n"
+     "    return (inexact(data) if s.counts[1] > before else 0,)",
+     "matrix: 0 told of what is not appended"),
+    (MODEL, "    set_combined(s, areas, matrix_of(data))\n    return (inexact(data),)",
+     "    before = s.counts[1]\n    set_combined(s, areas, matrix_of(data))\n    return (inexact(data) if s.counts[1] > before else 0,)",
+     "force: 0 told of what is not appended"),
+    (MODEL, "matrix_of(data))\n    return (inexact(data),)", "matrix_of(data))\n    return ()", "force: no number"),
+    (MODEL, "matrix_of(data))\n    return (inexact(data),)", "matrix_of(data))\n    return (0,)", "force: always 0"),
+    (MODEL, "        s.depth = depth\n    return ()", "        s.depth = depth\n    return (0,)", "pop: a number"),
+    *((MODEL, "            return refusal.values\n",
+       f"            return refusal.values + ((0,) if op.name in ('matrix', 'force') and refusal.values[0] == {n} else ())\n",
+       f"matrix and force: a number with {n}") for n in (7, 8, 9, 10)),
     (MODEL, "    for table in (1, 2):\n        if areas",
      "    for table in (2, 1):\n        if areas", "opening: the higher table named"),
     (MODEL, "        self.top, self.changed, self.first = None, False, 0\n",

@@ -164,9 +164,25 @@ def judge_row(s, slot):
 
 # Numbers from bytes.
 
-def matrix_of(data):
+def entries_of(data):
+    """A matrix's sixteen entries, each in 65536ths."""
     whole, parts = struct.unpack(">16h", data[:32]), struct.unpack(">16H", data[32:64])
-    return [f32(w + p / 65536) for w, p in zip(whole, parts)]
+    return [65536 * w + p for w, p in zip(whole, parts)]
+
+
+def matrix_of(data):
+    return [f32(e / 65536) for e in entries_of(data)]
+
+
+def is_exact(entry):
+    """Whether an f32 holds it: behind the highest 24 binary digits there are only zeros."""
+    size = abs(entry)
+    return size % (1 << max(0, size.bit_length() - 24)) == 0
+
+
+def inexact(data):
+    """How many of a matrix's sixteen entries are rounded when they are read."""
+    return sum(1 for e in entries_of(data) if not is_exact(e))
 
 
 def viewport_of(data):
@@ -233,14 +249,14 @@ def do_matrix(s, areas, args, data):
     set_combined(s, areas, product(top, proj))
     s.depth, s.proj = depth, proj
     s.stack[depth - 1] = list(top)
-    return ()
+    return (inexact(data),)
 
 
 def do_force(s, areas, args, data):
     judge_data(data, 64)
     judge_lent(s, areas, 1)
     set_combined(s, areas, matrix_of(data))
-    return ()
+    return (inexact(data),)
 
 
 def do_pop(s, areas, args, data):
