@@ -5,10 +5,11 @@ from tracefile import BOUNDS, Op
 LIGHTING, TEXGEN, LINEAR, FOG, BOTH = 0x20000, 0x40000, 0x80000, 0x10000, 0x600
 CULLS = {0: "no culling", 0x200: "front culling", 0x400: "back culling", 0x600: "both culled"}
 MODEL = ("multiplied", "pushed and multiplied", "loaded", "pushed and loaded")
+ROUNDED = ("no entry rounded", "some entries rounded", "every entry rounded")
 
 WANTED = {
     *(f"matrix {how}" for how in MODEL), "projection loaded", "projection multiplied", "forced matrix", "load under a forced matrix",
-    "pop", "pop of nothing", "new viewport", "same viewport", "lighting switched",
+    *ROUNDED, "pop", "pop of nothing", "new viewport", "same viewport", "lighting switched",
     *(f"lit load, {n} lights" for n in range(8)), "lit load, nothing new", "texgen 1", "texgen 2", "lookat kept", "load with fog",
     "fog pair found again", "new scales", "same scales", "ambient colour", "light", "light slot past the last", "lookat axis",
     *(f"modify {a:#x} {how}" for a in model.ATTRIBUTES for how in ("drawn", "not drawn")), "unit scale found again",
@@ -18,8 +19,18 @@ WANTED = {
 }
 
 
+def rounded(answer):
+    return ROUNDED[(answer[1] > 0) + (answer[1] == 16)]
+
+
+def of_force(s, op, answer, before):
+    yield "forced matrix"
+    yield rounded(answer)
+
+
 def of_matrix(s, op, answer, before):
     flags = op.args[0]
+    yield rounded(answer)
     if flags & 4:
         yield "projection loaded" if flags & 2 else "projection multiplied"
     else:
@@ -100,7 +111,7 @@ def named(name):
     return lambda s, op, answer, before: [name]
 
 
-BY_NAME = {"matrix": of_matrix, "force": named("forced matrix"), "pop": of_pop, "viewport": of_viewport, "geom": of_geom, "light": of_light,
+BY_NAME = {"matrix": of_matrix, "force": of_force, "pop": of_pop, "viewport": of_viewport, "geom": of_geom, "light": of_light,
            "lookat": of_lookat, "load": of_load, "modify": of_modify, "draw": of_draw, "cull": told, "depth": told, "ucode": named("microcode")}
 
 
