@@ -131,7 +131,7 @@ module _ (F : ℕ → Family) (limit : State → ℕ) (seats : ℕ) (few : seats
   keeps-matrix : (flags : ℕ) (bytes : List ℕ) (at : ℕ) → Accepted (Keeps (matrix flags bytes at)) (plan F limit (matrix flags bytes at) k)
   unfolding plan act turns
   keeps-matrix flags bytes at =
-      on-matrix (Keeps (matrix flags bytes at)) f (k .state) (k .matrices) flags bytes at
+      on-matrix (Keeps (matrix flags bytes at)) (k .state) (k .matrices) bytes at f flags
       (λ _ s′ q.
       product-keeps (matrix flags bytes at) s′ _ (ap partsOf q ∙ turned-parts _ _ _ (k .state) (matrixAt bytes at)) (ap settingsOf q ∙ turned-settings _ _ _ (k .state) (matrixAt bytes at)) refl)
 

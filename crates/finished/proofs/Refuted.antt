@@ -26,13 +26,13 @@ use Rattle.stage.specs.Modify.{moved, asking, changed, changePlan, modifyPlan}
 use Rattle.triangle.specs.Run.{closed, sameRun}
 use Rattle.triangle.specs.Slot.{held}
 use Rattle.stage.specs.declared.settings.Microcode.the-variants.{F3dex2}
-use Rattle.stage.specs.Plan.{pick, unless, carry, appended, appending}
+use Rattle.stage.specs.Plan.{pick, unless, carry, appended, appending, telling}
 use Rattle.stage.specs.Sound.{stateSound, limit}
 use Rattle.numbers.specs.Choice.{all}
 use Rattle.stage.specs.Opening.{zeros, blank, openingPlan}
 use Rattle.stage.specs.Opening as start
 use Rattle.stage.specs.Load.{settled, settledState, sharedBy, loadEdits, loadPlan}
-use Rattle.stage.specs.Matrices.{combine, turned, matrixPlan, forcePlan, geometryPlan}
+use Rattle.stage.specs.Matrices.{combine, turned, matrixStores, matrixPlan, forceStores, forcePlan, geometryPlan}
 use Rattle.stage.specs.Lights.{lightIn, numberPlan, ambientPlan, slotPlan, lightPlan, switched, microcodePlan}
 use Rattle.stage.specs.Rows.{fillSlot, fillSlots}
 use Rattle.stage.specs.Draw.{runEdit, drawPlan}
@@ -119,7 +119,7 @@ pub refuted : (AllFinished inPlace → ⊥)
     × (AllFinished storesAside → ⊥)
     × (AllFinished multipliesBack → ⊥)
     × (AllFinished leavesDefined → ⊥)
-unfolding inPlace keepsLoaded marksTwo sharesRow mergesRuns copiesOnce loadsFirst forgetsMark storesAside multipliesBack leavesDefined areas loaded single drawn recoloured lit white one-light cell under plan result step run accepted opening book shown shownBy settingsAt cornerOf triangleOf bench0 turnedTo lampTo loadedWith turns pops settledValues corner changedBy modifies draws act bench ofRatio rowTimes times rows laid codeOf depthOf entryAt rowAt matrixAt vertexAt tripleAt colourAt directionAt lightAt put write matches texgenMode made pushed popped relit slotted folded lightEntry directional lightEntries find sameScale refold floatsOf wordsOf clipOf slotAt slotOf verticesAt decoded floatsAfter wordsAfter depthAfter appends moved closed sameRun held pick unless carry appended appending all stateSound blank openingPlan start.opened combine turned matrixPlan forcePlan geometryPlan lightIn numberPlan ambientPlan slotPlan lightPlan settled settledState sharedBy loadEdits loadPlan switched microcodePlan fillSlot fillSlots asking changed changePlan modifyPlan runEdit drawPlan add mul div neg lt le eq ne
+unfolding inPlace keepsLoaded marksTwo sharesRow mergesRuns copiesOnce loadsFirst forgetsMark storesAside multipliesBack leavesDefined areas loaded single drawn recoloured lit white one-light cell under plan result step run accepted opening book shown shownBy settingsAt cornerOf triangleOf bench0 turnedTo lampTo loadedWith turns pops settledValues corner changedBy modifies draws act bench ofRatio rowTimes times rows laid codeOf depthOf entryAt rowAt matrixAt vertexAt tripleAt colourAt directionAt lightAt put write matches texgenMode made pushed popped relit slotted folded lightEntry directional lightEntries find sameScale refold floatsOf wordsOf clipOf slotAt slotOf verticesAt decoded floatsAfter wordsAfter depthAfter appends moved closed sameRun held pick unless carry appended appending all stateSound blank openingPlan start.opened combine turned telling matrixStores matrixPlan forceStores forcePlan geometryPlan lightIn numberPlan ambientPlan slotPlan lightPlan settled settledState sharedBy loadEdits loadPlan switched microcodePlan fillSlot fillSlots asking changed changePlan modifyPlan runEdit drawPlan add mul div neg lt le eq ne
 refuted = (
   λ h. let q : _≡_ {A = ℕ} 0x07000000 0 = ap (colourOf 1) (h areas areas alike (loaded 0 ∷ drawn 0 ∷ []) (recoloured 1 7 ∷ []) [] 0 (omega arith) .0 .shows) in omega (arith, q),
   λ h. let q : _≡_ {A = ℕ} 0x07000000 0 = ap (colourOf 1) (h areas areas alike (loaded 0 ∷ drawn 0 ∷ []) (microcode F3dex2 ∷ recoloured 1 7 ∷ []) [] 0 (omega arith) .0 .shows) in omega (arith, q),

@@ -1,15 +1,21 @@
 -- Laws by which a reader can trust the definitions: which bytes each of them reads, that a place is only where it starts, how long its answer is, and how large its numbers are. Assumes nothing.
-use mathlib.Core.Path.{_≡_, refl}
+use mathlib.Core.Path.{_≡_, refl, sym, _∙_}
+use mathlib.Core.Logic.{_↔_}
+use mathlib.Core.Bool.{Bool, true, false, false≢true}
 use mathlib.Core.List.{List, [], _∷_, map}
 use Prim.Native.Nat.{ℕ, _+_, _*_, _^_, _≤_, _<_}
 use native.Mathlib.Nat.{add-assoc, add-zero}
 use native.Mathlib.Omega.{arith}
 use lib.ListN.{length, drop}
 use lib.Seq.{getD-drop}
-use lib.IntN.{pos}
+use lib.IntN.{ℤ, pos, natAbs}
 use lib.Ieee.{binary32}
-use Rattle.numbers.specs.Ratio.{signed, ofRatio}
-use Rattle.layout.specs.Layout.{byteAt, halfAt, wordAt, entryAt, rowAt, matrixAt, vertexAt, tripleAt, viewportAt, colourAt, directionAt, lightAt}
+use lib.Ieee.Exact.{HasValue}
+use Rattle.numbers.specs.Ratio.{signed, below0, ofRatio, parts}
+use Rattle.numbers.proofs.Significant.{Significant}
+use Rattle.numbers.proofs.Believe.{half-fits, exact-means, exact-digits}
+use Rattle.layout.specs.Layout.{byteAt, halfAt, wordAt, signedAt, entryAt, rowAt, matrixAt, exactAt, inexactAt, vertexAt, tripleAt, viewportAt, colourAt, directionAt, lightAt}
+use Rattle.layout.proofs.Counting.{noes-same, noes-most, noes-none, noes-all}
 
 -- ---- which bytes are read
 
@@ -61,6 +67,15 @@ module _ {s t : List ℕ} {from to : ℕ} (a : Agree s t from to) where
   unfolding matrixAt
   matrix-reads i h = cc (row-reads 0 (omega arith) i h, row-reads 4 (omega arith) i h, row-reads 8 (omega arith) i h, row-reads 12 (omega arith) i h)
 
+  exact-reads : (k : ℕ) → k < 16 → Reads (λ (l : List ℕ) (i : ℕ). exactAt l i k) 64 s t from to
+  unfolding exactAt
+  exact-reads k l i h = cc (half-reads (i + 2 * k) (omega arith), half-reads (i + 32 + 2 * k) (omega arith))
+
+  -- so does the count of its entries that are not exact
+  pub inexact-reads : Reads inexactAt 64 s t from to
+  unfolding inexactAt
+  inexact-reads i h = noes-same (exactAt s i) (exactAt t i) 16 (λ k l. exact-reads k l i h)
+
 module _ {s t : List ℕ} (i : ℕ) where
   -- a vertex reads its 16 bytes but 6 and 7
   pub vertex-reads : Agree s t i (i + 6) → Agree s t (i + 8) (i + 16) → vertexAt s i ≡ vertexAt t i
@@ -94,12 +109,69 @@ Shifts R = (s : List ℕ) (i : ℕ) → R s i ≡ R (drop i s) 0
 -- a byte of what is left is a byte of the whole, further on
 ruleset further = (getD-drop, add-assoc, add-zero)
 
+half-further : (s : List ℕ) (i j k : ℕ) → j ≡ i + k → halfAt s j ≡ halfAt (drop i s) k
+half-further s i j k e = rw e (simp further)
+
+exact-shifts : (k : ℕ) → Shifts (λ (l : List ℕ) (i : ℕ). exactAt l i k)
+unfolding exactAt
+exact-shifts k s i = cc (half-further s i (i + 2 * k) (0 + 2 * k) (omega arith), half-further s i (i + 32 + 2 * k) (0 + 32 + 2 * k) (omega arith))
+
+inexact-shifts : Shifts inexactAt
+unfolding inexactAt
+inexact-shifts s i = noes-same (exactAt s i) (exactAt (drop i s) 0) 16 (λ k _. exact-shifts k s i)
+
 -- so it is for each of them
 pub shifts : Shifts byteAt × Shifts halfAt × Shifts wordAt
-    × Shifts matrixAt × Shifts vertexAt × Shifts viewportAt
+    × Shifts matrixAt × Shifts inexactAt × Shifts vertexAt × Shifts viewportAt
     × Shifts colourAt × Shifts directionAt × Shifts lightAt
 unfolding matrixAt vertexAt viewportAt lightAt
-shifts = (λ s i. simp further, λ s i. simp further, λ s i. simp further, λ s i. simp further, λ s i. simp further, λ s i. simp further, λ s i. simp further, λ s i. simp further, λ s i. simp further)
+shifts = (λ s i. simp further, λ s i. simp further, λ s i. simp further, λ s i. simp further, inexact-shifts, λ s i. simp further, λ s i. simp further, λ s i. simp further, λ s i. simp further, λ s i. simp further)
+
+-- ---- entries that are not exact
+
+module _ (s : List ℕ) (i : ℕ) where
+  -- entry k in parts of 65536
+  abbrev pub partsAt : ℕ → ℤ
+  partsAt k = parts (signedAt s (i + 2 * k)) (halfAt s (i + 32 + 2 * k))
+
+  -- the f32 of entry k is the fraction that its bytes make
+  abbrev pub IsFraction : ℕ → Type 0
+  IsFraction k = HasValue (entryAt s i k) (below0 (partsAt k)) (natAbs (partsAt k)) 65536
+
+  exact-is : (k : ℕ) → (exactAt s i k ≡ true) ↔ IsFraction k
+  unfolding exactAt entryAt
+  exact-is k = exact-means (signedAt s (i + 2 * k)) (halfAt s (i + 32 + 2 * k))
+
+  -- ON WHOLE NUMBERS: entry k of bytes is exact exactly where it has, in parts of 65536, at most 24 significant binary digits
+  pub exact-at : ((j : ℕ) → byteAt s j < 256) → (k : ℕ) → (exactAt s i k ≡ true) ↔ Significant (natAbs (partsAt k))
+  unfolding exactAt
+  exact-at h k =
+      exact-digits (signedAt s (i + 2 * k)) (halfAt s (i + 32 + 2 * k)) (half-fits (halfAt s (i + 2 * k)) (omega (arith, h (i + 2 * k), h (i + 2 * k + 1)))) (omega (arith, h (i + 32 + 2 * k), h (i + 32 + 2 * k + 1)))
+
+  -- at most sixteen
+  pub inexact-most : inexactAt s i ≤ 16
+  unfolding inexactAt
+  inexact-most = noes-most (exactAt s i) 16
+
+  -- 0 IS TOLD exactly where each of the sixteen equals its fraction
+  pub inexact-none : (inexactAt s i ≡ 0) ↔ ((k : ℕ) → k < 16 → IsFraction k)
+  unfolding inexactAt
+  inexact-none = (
+    λ e k h. exact-is k .0 (noes-none (exactAt s i) 16 .0 e k h),
+    λ f. noes-none (exactAt s i) 16 .1 (λ k h. exact-is k .1 (f k h)),
+  )
+
+  -- 16 IS TOLD exactly where none does
+  pub inexact-all : (inexactAt s i ≡ 16) ↔ ((k : ℕ) → k < 16 → IsFraction k → ⊥)
+  unfolding inexactAt
+  inexact-all = (
+    λ e k h v. false≢true (sym (noes-all (exactAt s i) 16 .0 e k h) ∙ exact-is k .1 v),
+    λ f. noes-all (exactAt s i) 16 .1 (λ k h. never (exactAt s i k) (λ e. f k h (exact-is k .0 e))),
+  )
+    where
+      never : (b : Bool) → (b ≡ true → ⊥) → b ≡ false
+      never true n = absurd (n refl)
+      never false n = refl
 
 -- ---- lengths
 

@@ -1,9 +1,11 @@
 -- What gbi.h lays out in bytes: each as a definition on the bytes s from place i on. Definitions only.
-use Prim.Native.Nat.{ℕ, _+_, _*_}
+use Prim.Native.Nat.{ℕ, zero, suc, _+_, _*_}
+use mathlib.Core.Bool.{Bool}
 use mathlib.Core.List.{List, [], _∷_}
 use lib.ListN.{getD}
 use lib.IntN.{ℤ, pos}
 use lib.Ieee.{Float, binary32}
+use Rattle.numbers.specs.Choice.{pick}
 use Rattle.numbers.specs.Ratio.{signed, ofRatio}
 use Rattle.numbers.specs.Ratio as ratio
 use Rattle.layout.specs.declared.records.Vertex.{Vertex}
@@ -43,6 +45,19 @@ rowAt s i k = entryAt s i k ∷ entryAt s i (k + 1) ∷ entryAt s i (k + 2) ∷ 
 unfoldable pub matrixAt : List ℕ → ℕ → List (List Float)
 unfolding rowAt
 matrixAt s i = rowAt s i 0 ∷ rowAt s i 4 ∷ rowAt s i 8 ∷ rowAt s i 12 ∷ []
+
+-- entry k is exact: its f32 is the value that its whole part and its fraction make
+unfoldable pub exactAt : List ℕ → ℕ → ℕ → Bool
+exactAt s i k = ratio.exact (signedAt s (i + 2 * k)) (halfAt s (i + 32 + 2 * k))
+
+-- how many of the n marks b 0, b 1, .. say no
+unfoldable pub noes : (ℕ → Bool) → ℕ → ℕ
+noes b zero = 0
+noes b (suc n) = noes b n + pick (b n) 0 1
+
+-- how many of a matrix's sixteen entries are not exact
+unfoldable pub inexactAt : List ℕ → ℕ → ℕ
+inexactAt s i = noes (exactAt s i) 16
 
 -- a vertex, 16 bytes: position at 0, 2, 4; s and t at 8 and 10; the colour word at 12
 unfoldable pub vertexAt : List ℕ → ℕ → Vertex

@@ -3,10 +3,11 @@
 ghost use mathlib.Core.Path.{_≡_};
 ghost use Prim.Native.Nat.{_+_, _≤_, _<_};
 ghost use lib.ListN.{length};
-ghost use Rattle.layout.specs.Layout.{byteAt, halfAt, wordAt, signedAt, ratioAt, entryAt, rowAt, matrixAt, vertexAt, tripleAt, viewportAt, colourAt, axisAt, directionAt, lightAt};
+ghost use Rattle.layout.specs.Layout.{byteAt, halfAt, wordAt, signedAt, ratioAt, entryAt, rowAt, matrixAt, exactAt, inexactAt, vertexAt, tripleAt, viewportAt, colourAt, axisAt, directionAt, lightAt};
 use crate::records::Light;
 use crate::records::Vertex;
 use crate::records::Viewport;
+use numbers::entry::Entry;
 
 pub mod records;
 
@@ -42,13 +43,12 @@ fn signed_half(s: &[u8], at: usize) -> i16
     numbers::signed::signed_half(half(s, at))
 }
 
-// Entry `k` of a matrix at `at`: its whole part among the first 32 bytes, its fraction among the next 32.
-fn entry(s: &[u8], at: usize, k: usize) -> f32
+// Entry `k` of a matrix at `at`, its whole part among the first 32 bytes, its fraction among the next 32; and whether it is exact.
+fn entry(s: &[u8], at: usize, k: usize) -> Entry
     requires { ⌜ (at + 64 ≤ length (now s)) × (k < 16) ⌝ }
-    ensures { λ r. ⌜ r ≡ entryAt (now (s .entry)) at k ⌝ }
+    ensures { λ r. ⌜ r ≡ record { value = entryAt (now (s .entry)) at k; exact = exactAt (now (s .entry)) at k } ⌝ }
 {
-    let e = numbers::entry::matrix_entry(signed_half(s, at + 2 * k), half(s, at + 32 + 2 * k));
-    e.value
+    numbers::entry::matrix_entry(signed_half(s, at + 2 * k), half(s, at + 32 + 2 * k))
 }
 
 // Entries `k` to `k + 3`.
@@ -56,12 +56,11 @@ fn row(s: &[u8], at: usize, k: usize) -> [f32; 4]
     requires { ⌜ (at + 64 ≤ length (now s)) × (k + 4 ≤ 16) ⌝ }
     ensures { λ r. ⌜ r ≡ rowAt (now (s .entry)) at k ⌝ }
 {
-    [
-        entry(s, at, k),
-        entry(s, at, k + 1),
-        entry(s, at, k + 2),
-        entry(s, at, k + 3),
-    ]
+    let a = entry(s, at, k);
+    let b = entry(s, at, k + 1);
+    let c = entry(s, at, k + 2);
+    let d = entry(s, at, k + 3);
+    [a.value, b.value, c.value, d.value]
 }
 
 // A matrix: the 64 bytes from `at` on.
@@ -70,6 +69,21 @@ pub fn matrix(s: &[u8], at: usize) -> [[f32; 4]; 4]
     ensures { λ r. ⌜ r ≡ matrixAt (now (s .entry)) at ⌝ }
 {
     [row(s, at, 0), row(s, at, 4), row(s, at, 8), row(s, at, 12)]
+}
+
+// How many of its sixteen entries are not exact.
+pub fn inexact(s: &[u8], at: usize) -> u32
+    requires { ⌜ at + 64 ≤ length (now s) ⌝ }
+    ensures { λ r. ⌜ r ≡ inexactAt (now (s .entry)) at ⌝ }
+{
+    let mut count: u32 = 0;
+    for k in 0..16 {
+        let e = entry(s, at, k);
+        if !e.exact {
+            count = count + 1;
+        }
+    }
+    count
 }
 
 // A half read with its sign, as a float.

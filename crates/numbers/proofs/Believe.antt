@@ -6,16 +6,16 @@ use native.Mathlib.Nat.{le-trans, le-antisymm, le-of-eq, lt-of-le-of-lt, lt-irre
 use native.Mathlib.Omega.{arith}
 use mathlib.Core.Bool.{Bool, true, false, not, _&&_, Bool·beq, false≢true}
 use lib.IntN.{ℤ, pos, negsuc, natAbs}
-use lib.Dec.{T, leb, ltb, eqb, eqb→eq, leb→le, ltb→lt, nltb→le, lit<}
+use lib.Dec.{T, leb, ltb, eqb, eqb→eq, leb→le, ltb→lt, nltb→le, not-T, lit<}
 use lib.Pow.{pow-pos, pow-mono}
 use lib.Signed.{natAbs-le}
 use lib.Ieee.{Float, nan, inf, fin, Format, binary32, binary64, up, down, units, fits}
-use lib.Ieee.Bits.{is-true, ofBits-fits}
-use lib.Ieee.Fits.{and-i, and-l, and-r, eq→eqb}
+use lib.Ieee.Bits.{is-true, is-false, ofBits-fits}
+use lib.Ieee.Fits.{and-i, and-l, and-r, eq→eqb, round-fits}
 use lib.Ieee.Exact.{HasValue, units-val}
 use lib.Ieee.Back.{round-whole}
 use lib.Ieee.Positive.{positive}
-use mir.Syntax.{Width}
+use mir.Syntax.{Width, w16}
 use mir.Val.{SFits, hbits}
 use Rattle.numbers.specs.Choice.{pick}
 use Rattle.numbers.specs.Ratio.{signed, below0, ofRatio, isRatio, parts, entry, exact}
@@ -23,6 +23,8 @@ use Rattle.numbers.specs.Sqrt.{rootBy, rooted, sqrt}
 use Rattle.numbers.proofs.Halves.{signed-low, signed-high}
 use Rattle.numbers.proofs.Quotients.{round-fix}
 use Rattle.numbers.proofs.Losses.{signs, wide-exact}
+use Rattle.numbers.proofs.Parts.{parts-small}
+use Rattle.numbers.proofs.Significant.{Significant, significant-held, held-significant, parts-by-256, odd-not}
 use Rattle.numbers.proofs.Values.{placed, same-size, value-unique}
 use Rattle.numbers.proofs.Root.{square, square-shift, rounded}
 use Rattle.numbers.proofs.Rooted.{in-range, written, rooted-at, sqrt-value}
@@ -44,6 +46,14 @@ signed-range w h k = go (ltb h (2 ^ (w - 1))) (ltb→lt h (2 ^ (w - 1))) (nltb�
       where
         whole : suc (2 ^ w - suc h) + h ≡ 2 ^ w
         whole = omega arith
+
+-- of 16 bits it is an i16
+pub half-fits : (h : ℕ) → h < 65536 → SFits w16 (signed 16 h)
+half-fits h k = go (ltb h 32768) (ltb→lt h 32768) (nltb→le h 32768)
+  where
+    go : (b : Bool) → (T b → h < 32768) → (T (not b) → 32768 ≤ h) → SFits w16 (signed 16 h)
+    go true y n = subst (SFits w16) (sym (signed-low 16 h (y tt))) (record { sfits = y tt })
+    go false y n = subst (SFits w16) (sym (signed-high 16 h (n tt) k)) (record { sfits = omega (arith, n tt) })
 
 -- the ends of 16 bits: 0, 32767, -32768 and -1
 pub half-ends : (signed 16 0 ≡ pos 0) × (signed 16 32767 ≡ pos 32767) × (signed 16 32768 ≡ negsuc 32767) × (signed 16 65535 ≡ negsuc 0)
@@ -86,6 +96,29 @@ ratio-means (fin s m e) z d =
 -- the mark of a matrix entry says that the f32 is the entry: rounding lost nothing
 pub exact-means : (whole : ℤ) (fraction : ℕ) → (exact whole fraction ≡ true) ↔ HasValue (entry whole fraction) (below0 (parts whole fraction)) (natAbs (parts whole fraction)) 65536
 exact-means whole fraction = ratio-means (entry whole fraction) (parts whole fraction) 65536
+
+-- ON WHOLE NUMBERS: it says that the value, in parts of 65536, has at most 24 significant binary digits
+pub exact-digits : (whole : ℤ) (fraction : ℕ) → SFits w16 whole → fraction < 65536 → (exact whole fraction ≡ true) ↔ Significant (natAbs (parts whole fraction))
+unfolding ofRatio
+exact-digits whole fraction h k =
+    let s = below0 (parts whole fraction) in
+    let n = natAbs (parts whole fraction) in
+    let m = exact-means whole fraction in (
+      λ e. held-significant (entry whole fraction) s n (round-fits binary32 s n 65536) (m .0 e),
+      λ d. m .1 (significant-held s n (parts-small whole fraction h k) d),
+    )
+
+-- each whole number with so many parts of 256 is exact
+pub by-256-exact : (whole : ℤ) (k : ℕ) → SFits w16 whole → k < 256 → exact whole (k * 256) ≡ true
+by-256-exact whole k h l = exact-digits whole (k * 256) h (omega arith) .1 (parts-by-256 whole k h l)
+
+-- so are 0 and both ends of the whole part
+pub ends-exact : (exact (pos 0) 0 ≡ true) × (exact (negsuc 32767) 0 ≡ true) × (exact (pos 32767) 0 ≡ true)
+ends-exact = (by-256-exact (pos 0) 0 (record { sfits = lit< tt }) (lit< tt), by-256-exact (negsuc 32767) 0 (record { sfits = lit< tt }) (lit< tt), by-256-exact (pos 32767) 0 (record { sfits = lit< tt }) (lit< tt))
+
+-- from 256 on in size no odd fraction is: it has its 25th digit at least
+pub odd-lost : (whole : ℤ) (k : ℕ) → SFits w16 whole → 2 * k + 1 < 65536 → 2 ^ 24 ≤ natAbs (parts whole (2 * k + 1)) → exact whole (2 * k + 1) ≡ false
+odd-lost whole k h l g = is-false (exact whole (2 * k + 1)) (not-T (exact whole (2 * k + 1)) (λ t. odd-not whole k l g (exact-digits whole (2 * k + 1) h l .0 (is-true (exact whole (2 * k + 1)) t))))
 
 -- an f64 holds each number of 32 bits divided by 65536
 pub by-wide-exact : (x : ℕ) → x < 2 ^ 32 → HasValue (ofRatio binary64 (pos x) 65536) false x 65536

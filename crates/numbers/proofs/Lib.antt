@@ -3,6 +3,7 @@ pub mod Quotients
 pub mod Sums
 pub mod Losses
 pub mod Parts
+pub mod Significant
 pub mod Halves
 pub mod Bounded
 pub mod Inverse

@@ -29,7 +29,7 @@ times n = ap (λ (k : ℕ). negℤ (pos k)) (next n)
     next n = omega arith
 
 -- with its fraction it is still below 0
-parts-neg : (n x : ℕ) → x < 65536 → parts (negsuc n) x ≡ negsuc (n * 65536 + 65535 - x)
+pub parts-neg : (n x : ℕ) → x < 65536 → parts (negsuc n) x ≡ negsuc (n * 65536 + 65535 - x)
 parts-neg n x h =
     ap (λ (z : ℤ). z +ℤ pos x) (times n)
     ∙ ap (λ (b : Bool). cond b (negsuc (suc (n * 65536 + 65535) - suc x)) (pos (x - suc (n * 65536 + 65535)))) (is-true (ltb x (suc (n * 65536 + 65535))) (lt→ltb x (suc (n * 65536 + 65535)) (omega arith)))

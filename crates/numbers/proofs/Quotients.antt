@@ -93,7 +93,7 @@ pub round-val : (f : Format) (s : Bool) (a c : ℕ) → grid f a c < overflow f 
 round-val f s a c h = subst (λ (z : Float). HasValue z s (grid f a c) (2 ^ low f)) (sym (round-is f s a c)) (units-val f s (kept (prec f) (a * 2 ^ low f) c) (drop (prec f) (a * 2 ^ low f) c) h)
 
 -- a product is no smaller than its first factor
-down-le : (g p : ℕ) → 0 < p → g ≤ g * p
+pub down-le : (g p : ℕ) → 0 < p → g ≤ g * p
 down-le g p h = le-trans (le-of-eq (sym (mul-one g))) (mul-le-mul (le-refl g) h)
 
 -- a rounded fraction divided by a power of two is the smaller fraction, rounded once, where both are in the normal range

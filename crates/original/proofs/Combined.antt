@@ -27,7 +27,7 @@ use Rattle.original.specs.Rsp.{Viewports, Texcoords, Matrices, eq-mat, l
 use Rattle.original.specs.Drawing.{Columns, Result, Ok, Err}
 use Rattle.original.specs.Walk.{World, Went, with-matrices, with-rsp, execute}
 use Rattle.original.specs.Relation.{MatrixSame, Near}
-use Rattle.original.specs.Domain.{Data, Agrees}
+use Rattle.original.specs.Domain.{compared, Data, Agrees}
 use Rattle.original.proofs.Alike.{has-push, has-load, has-projection, popped-same}
 use Rattle.original.proofs.Nears.{space-near}
 use Rattle.original.proofs.Readers.{matrix-same}
@@ -93,7 +93,7 @@ module _ {D : Bool → Bool → Type 0} {G : ℕ → ℕ → Type 0} {P : List F
 
 module _ {D : Bool → Bool → Type 0} {G : ℕ → ℕ → Type 0} {P : List Float → List (List Float) → Viewports → Type 0} {X : ℕ → List (List Float) → Texcoords → Type 0} {R : List Row → Columns → Type 0} {k : Book} {w : World} (N : Near D G P X R k w) where
   abbrev Owes : Command → Type 0
-  Owes c = Accepted (λ vs t e. Agrees (Near _≡_ G P X R) vs (enter t e k) (execute c w)) (plan familyOf limit c k)
+  Owes c = Accepted (λ vs t e. Agrees (Near _≡_ G P X R) (compared c vs) (enter t e k) (execute c w)) (plan familyOf limit c k)
 
   -- edits entered with another state of the same counts
   entered : (s t : State) (e : Edits) → s .counts ≡ k .state .counts → enter t e (withState k s) ≡ enter t e k
@@ -113,12 +113,12 @@ module _ {D : Bool → Bool → Type 0} {G : ℕ → ℕ → Type 0} {P : List F
   -- a state s of the same counts, and matrices m before they are recomputed
   recomputed : (s : State) (m : Matrices) (c : Command) → Near D G P X R (withState k s) (withMatrices w m) → s .counts ≡ k .state .counts
       → execute c w ≡ Ok (record { values = []; world = withMatrices w (recompute-mvp m) })
-      → Accepted (λ vs t e. Agrees (Near _≡_ G P X R) vs (enter t e k) (execute c w)) (combine s (k .matrices) (laid (times (modelTop s) (rows (s .projection) 0))))
+      → Accepted (λ vs t e. (vs ≡ []) × Agrees (Near _≡_ G P X R) [] (enter t e k) (execute c w)) (combine s (k .matrices) (laid (times (modelTop s) (rows (s .projection) 0))))
   recomputed s m c n q x =
       accepted-map _ _
       (λ vs t e a.
       rw (x, recompute-is m)
-      (a .0, subst (λ (b : Book). Near _≡_ G P X R b (withMatrices w (combined-by (mul4 (mv-top m) (m .viewproj)) m))) (entered s t e q) (a .1)))
+      (a .0, (refl, subst (λ (b : Book). Near _≡_ G P X R b (withMatrices w (combined-by (mul4 (mv-top m) (m .viewproj)) m))) (entered s t e q) (a .1))))
       _ (combine-agrees n (mul4 (mv-top m) (m .viewproj)) (laid (times (modelTop s) (rows (s .projection) 0))) (product-same (n .space .matrices)))
 
   module _ (flags : ℕ) (bytes : List ℕ) (at : ℕ) (I : Data bytes) (fits : at + 64 ≤ length bytes) where
@@ -127,7 +127,7 @@ module _ {D : Bool → Bool → Type 0} {G : ℕ → ℕ → Type 0} {P : List F
 
     abbrev Turns : State → Type 0
     Turns u =
-        Accepted (λ vs t e. Agrees (Near _≡_ G P X R) vs (enter t e k) (execute (matrix flags bytes at) w)) (combine u (k .matrices) (laid (times (modelTop u) (rows (u .projection) 0))))
+        Accepted (λ vs t e. (vs ≡ []) × Agrees (Near _≡_ G P X R) [] (enter t e k) (execute (matrix flags bytes at) w)) (combine u (k .matrices) (laid (times (modelTop u) (rows (u .projection) 0))))
 
     turns-projection : flag (f3dex2 .projection) flags ≡ true
         → Turns (withProjection (k .state) (laid (made (flag (f3dex2 .load) flags) (matrixAt bytes at) (rows (k .state .projection) 0))))
@@ -163,8 +163,8 @@ module _ {D : Bool → Bool → Type 0} {G : ℕ → ℕ → Type 0} {P : List F
   pub matrix-agrees : (flags : ℕ) (bytes : List ℕ) (at : ℕ) → Data bytes → Owes (matrix flags bytes at)
   unfolding plan
   matrix-agrees flags bytes at I =
-      on-matrix _ f3dex2 (k .state) (k .matrices) flags bytes at
-      (λ n s q. subst (Turns flags bytes at I n) (sym q) (turns flags bytes at I n))
+      on-matrix _ (k .state) (k .matrices) bytes at f3dex2 flags
+      (λ n s q. accepted-map _ _ (λ vs t e a. a .1) _ (subst (Turns flags bytes at I n) (sym q) (turns flags bytes at I n)))
 
   pub force-agrees : (bytes : List ℕ) (at : ℕ) → Data bytes → Owes (force bytes at)
   unfolding plan execute force-matrix combined-by
@@ -172,7 +172,7 @@ module _ {D : Bool → Bool → Type 0} {G : ℕ → ℕ → Type 0} {P : List F
       on-force _ (k .state) (k .matrices) bytes at
       (λ n.
       accepted-map _ _
-      (λ vs t e a. (a .0, subst (λ (x : Matrices). Near _≡_ G P X R (enter t e k) (withMatrices w x)) forced (a .1)))
+      (λ vs t e a. (refl, subst (λ (x : Matrices). Near _≡_ G P X R (enter t e k) (withMatrices w x)) forced (a .1)))
       _ (combine-agrees N (read-matrix bytes at) (laid (matrixAt bytes at)) (ap laid (sym (matrix-same bytes at (I .bytes) (I .short) n)))))
     where
       m : Matrices
@@ -208,7 +208,7 @@ module _ {D : Bool → Bool → Type 0} {G : ℕ → ℕ → Type 0} {P : List F
       rw (tested ∙ q) (refl, N))
       (λ q s z.
       subst (λ (u : State). Accepted (λ vs t e. Agrees (Near D G P X R) vs (enter t e k) (execute (pop count) w)) (combine u (k .matrices) (laid (times (modelTop u) (rows (u .projection) 0))))) (sym z)
-      (accepted-map _ _ (λ vs t e. weaken vs (enter t e k) (execute (pop count) w))
+      (accepted-map _ _ (λ vs t e a. weaken vs (enter t e k) (execute (pop count) w) (subst (λ (ws : List ℕ). Agrees (Near _≡_ G P X R) ws (enter t e k) (execute (pop count) w)) (sym (a .0)) (a .1)))
       _ (recomputed (withModel (k .state) (popped count (k .state .depth)) (k .state .stack)) (with-stack (w .rsp .matrices) (w .rsp .matrices .model-stack) (popped count (k .state .depth))) (pop count)
       (turned-near N _ _ refl refl (depth-lowered (N .space .matrices) (popped count (k .state .depth)) (in-range .0) (in-range .1)))
       refl (rw (tested ∙ q, same-size)))))

@@ -31,12 +31,12 @@ use Rattle.triangle.specs.Run.{closed, sameRun}
 use Rattle.triangle.specs.Slot.{held}
 use Rattle.stage.specs.declared.settings.Microcode.{Microcode}
 use Rattle.stage.specs.declared.settings.Microcode.the-variants.{F3dex2, F3dex2NoN}
-use Rattle.stage.specs.Plan.{Plan, refuse, does, pick, unless, appended, appending}
+use Rattle.stage.specs.Plan.{Plan, refuse, does, pick, unless, appended, appending, telling}
 use Rattle.stage.specs.Sound.{stateSound, limit}
 use Rattle.numbers.specs.Choice.{all}
 use Rattle.stage.specs.Opening.{zeros, blank}
 use Rattle.stage.specs.Opening as start
-use Rattle.stage.specs.Matrices.{combine, turned, matrixPlan, popPlan, viewing, viewportPlan, geometryPlan}
+use Rattle.stage.specs.Matrices.{combine, turned, matrixStores, matrixPlan, popPlan, viewing, viewportPlan, geometryPlan}
 use Rattle.stage.specs.Lights.{switched, microcodePlan, texturePlan, fogPlan, lightIn, axisIn, numberPlan, ambientPlan, slotPlan, lightPlan, lookatPlan}
 use Rattle.stage.specs.Load.{settled, settledState, sharedBy, loadEdits, loadPlan}
 use Rattle.stage.specs.Rows.{fillSlot, fillSlots}
@@ -147,7 +147,7 @@ abbrev end : Microcode → Book
 end u = course stage every (begun-book u lent)
 
 computed : (u : Microcode) → (all-done every (begun-book u lent) ≡ true) × (length (end u .drawing .indices .used) ≡ 6)
-unfolding toBits ofInt round add mul div neg lt le eq ne ofRatio isRatio root.step root.root root.rootBy root.rooted root.sqrt rowTimes colTimes times rows laid bitsOf codeOf screenOf depthOf entryAt rowAt matrixAt vertexAt tripleAt viewportAt colourAt directionAt lightAt put write matches eqbℤ texgenMode slotted made pushed popped relit folded lightEntry directional lightEntries lookatEntry find sameScale refold floatsOf wordsOf clipOf slotAt slotOf verticesAt decoded floatsAfter wordsAfter depthAfter appends moved closed sameRun held pick unless appended appending all stateSound blank start.opened combine turned matrixPlan popPlan viewing viewportPlan geometryPlan switched microcodePlan texturePlan fogPlan lightIn axisIn numberPlan ambientPlan slotPlan lightPlan lookatPlan settled settledState sharedBy loadEdits loadPlan fillSlot fillSlots asking changed changePlan modifyPlan inkPlan runEdit drawPlan plan turn course
+unfolding toBits ofInt round add mul div neg lt le eq ne ofRatio isRatio root.step root.root root.rootBy root.rooted root.sqrt rowTimes colTimes times rows laid bitsOf codeOf screenOf depthOf entryAt rowAt matrixAt vertexAt tripleAt viewportAt colourAt directionAt lightAt put write matches eqbℤ texgenMode slotted made pushed popped relit folded lightEntry directional lightEntries lookatEntry find sameScale refold floatsOf wordsOf clipOf slotAt slotOf verticesAt decoded floatsAfter wordsAfter depthAfter appends moved closed sameRun held pick unless appended appending all stateSound blank start.opened combine turned telling matrixStores matrixPlan popPlan viewing viewportPlan geometryPlan switched microcodePlan texturePlan fogPlan lightIn axisIn numberPlan ambientPlan slotPlan lightPlan lookatPlan settled settledState sharedBy loadEdits loadPlan fillSlot fillSlots asking changed changePlan modifyPlan inkPlan runEdit drawPlan plan turn course
 computed F3dex2 = (refl, refl)
 computed F3dex2NoN = (refl, refl)
 

@@ -17,9 +17,9 @@ use Rattle.change.specs.Decoded.{decoded}
 use Rattle.triangle.specs.Slot.{held, culls}
 use Rattle.stage.specs.declared.State.{State}
 use Rattle.stage.specs.Modify.{moved, scaleEdit, rowChange, asking, changePlan, modifyPlan, inkPlan}
-use Rattle.stage.specs.Plan.{Table, Edit, keep, grow, Edits, Plan, refuse, does, unless, pick, lent, judge, appended, appending, untouched}
+use Rattle.stage.specs.Plan.{Table, Edit, keep, grow, Edits, Plan, refuse, does, unless, pick, lent, judge, appended, appending, untouched, telling}
 use Rattle.stage.specs.Sound.{stateSound}
-use Rattle.stage.specs.Matrices.{combine, matrixPlan, forcePlan, popPlan, viewing, viewportPlan, geometryPlan}
+use Rattle.stage.specs.Matrices.{combine, matrixStores, matrixPlan, forceStores, forcePlan, popPlan, viewing, viewportPlan, geometryPlan}
 use Rattle.stage.specs.Lights.{texturePlan, fogPlan, numberPlan, lightPlan, ambientPlan, slotPlan, lookatPlan, microcodePlan}
 use Rattle.decide.specs.Family.{f3dex2}
 use Rattle.triangle.specs.Run.{settings}
@@ -65,6 +65,11 @@ module _ (Q : ℕ → List ℕ → Type 0) where
   re-combine : (s : State) (t : Table (List Float)) (m : List Float) → ((vs : List ℕ) → Q 9 vs) → Refused Q (combine s t m)
   unfolding combine
   re-combine s t m f = re-appending 1 t m _ f (λ e. re-does _ _ _)
+
+  re-telling : (n : ℕ) (p : Plan) → Refused Q p → Refused Q (telling n p)
+  unfolding telling Refused
+  re-telling n (refuse m vs) h = h
+  re-telling n (does vs t e) h = tt
 
   re-ever : (slots : ℕ) (s : State) (is : List ℕ) (p : Plan) → ((vs : List ℕ) → Q 6 vs) → Refused Q p → Refused Q (judgeEver slots s is p)
   re-ever slots s [] p f g = g
@@ -208,13 +213,13 @@ module _ {o : Offsets} {k : Book} {w : World} (N : Same o k w) where
 
   -- WHERE THE STAGE REFUSES WITH 2, 3, 4 OR 5, THE ORIGINAL REFUSES TOO, WITH THE SAME VALUES
   pub refused-too : (c : Command) → Refused (Too c) (stage c k)
-  unfolding plan matrixPlan forcePlan popPlan viewportPlan viewing geometryPlan texturePlan fogPlan numberPlan lightPlan ambientPlan slotPlan lookatPlan microcodePlan loadPlan drawPlan inkPlan
+  unfolding plan matrixPlan matrixStores forcePlan forceStores popPlan viewportPlan viewing geometryPlan texturePlan fogPlan numberPlan lightPlan ambientPlan slotPlan lookatPlan microcodePlan loadPlan drawPlan inkPlan
   refused-too (matrix flags bytes at) =
       let c : Command = matrix flags bytes at in
-      sound-refused c _ (data-refused c _ _ _ (short-refused c (lent 1 (k .matrices) keep ∷ []) _ (re-combine _ _ _ _ (not-one c 9 (omega arith)))))
+      re-telling _ _ _ (sound-refused c _ (data-refused c _ _ _ (short-refused c (lent 1 (k .matrices) keep ∷ []) _ (re-combine _ _ _ _ (not-one c 9 (omega arith))))))
   refused-too (force bytes at) =
       let c : Command = force bytes at in
-      sound-refused c _ (data-refused c _ _ _ (short-refused c (lent 1 (k .matrices) keep ∷ []) _ (re-combine _ _ _ _ (not-one c 9 (omega arith)))))
+      re-telling _ _ _ (sound-refused c _ (data-refused c _ _ _ (short-refused c (lent 1 (k .matrices) keep ∷ []) _ (re-combine _ _ _ _ (not-one c 9 (omega arith))))))
   refused-too (pop count) =
       let c : Command = pop count in
       sound-refused c _ (short-refused c (lent 1 (k .matrices) keep ∷ []) _ (re-pick _ _ _ _ (quiet c _ _ _) (re-combine _ _ _ _ (not-one c 9 (omega arith)))))

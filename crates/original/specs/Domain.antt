@@ -94,10 +94,30 @@ abbrev pub sent : List Command → List Command
 sent [] = []
 sent (c ∷ cs) = cond (isInk c) (sent cs) (c ∷ sent cs)
 
--- the values of each answer that the stage, sent them all, gives to those
+-- of an answer's values, those that are compared: the original does not say how many entries of a matrix are not exact, so that number is left aside
+abbrev pub compared : Command → List ℕ → List ℕ
+compared (matrix flags bytes at) vs = []
+compared (force bytes at) vs = []
+compared (pop count) vs = vs
+compared (viewport bytes at) vs = vs
+compared (geometry off on) vs = vs
+compared (texture tile level on sc tc) vs = vs
+compared (fog multiplier offset) vs = vs
+compared (number bytes) vs = vs
+compared (light slot bytes at) vs = vs
+compared (lookat slot bytes at) vs = vs
+compared (microcode to) vs = vs
+compared (load first count bytes at) vs = vs
+compared (cull first last) vs = vs
+compared (depth slot threshold) vs = vs
+compared (modify slot attribute value) vs = vs
+compared (draw a b c material mode colour prim) vs = vs
+compared (ink colour) vs = vs
+
+-- those values of each answer that the stage, sent them all, gives to the commands that are sent
 abbrev pub told : List Command → Port → List (List ℕ)
 told [] p = []
-told (c ∷ cs) p = cond (isInk c) (told cs (step stage c p)) (result stage c p .values ∷ told cs (step stage c p))
+told (c ∷ cs) p = cond (isInk c) (told cs (step stage c p)) (compared c (result stage c p .values) ∷ told cs (step stage c p))
 
 -- each is within the domain
 abbrev pub AllWithin : List Command → Type 0
@@ -209,7 +229,8 @@ pub record OneMore (o : Offsets) (k : Book) (w : World) : Type 0 where
 
 -- ---- demand 2
 
--- the original, sent them but for the ink counts, has done each, has told what the stage told, and has left the same from the offsets on;
+-- the original, sent them but for the ink counts, has done each, has told what the stage told but for the count of a matrix's entries that are
+-- not exact, and has left the same from the offsets on;
 -- and without the ink counts the stage leaves the very state and areas that it leaves with them
 pub record Equals (o : Offsets) (cs : List Command) (p : Port) (w : World) : Type 0 where
   pub walked : Walked

@@ -1,9 +1,9 @@
--- Fifteen cases of the rules as one table, a row for each. A case that goes through commands says the number and the values
+-- Eighteen cases of the rules as one table, a row for each. A case that goes through commands says the number and the values
 -- of each one's answer. `prints` of proofs/Proved.antt proves it whole.
 use mathlib.Core.Path.{_≡_}
 use mathlib.Core.Bool.{true, false}
 use mathlib.Core.List.{List, [], _∷_, _++_}
-use Prim.Native.Nat.{ℕ, _+_, _*_}
+use Prim.Native.Nat.{ℕ, zero, suc, _+_, _*_}
 use lib.ListN.{replicate, getD}
 use lib.IntN.{ℤ, pos, negsuc}
 use lib.Ieee.{Float, binary32, toBits}
@@ -16,10 +16,10 @@ use Rattle.mode.specs.Word.{joined}
 use Rattle.decide.specs.Family.{familyOf}
 use Rattle.decide.specs.Lights.{lightNumber}
 use Rattle.stage.specs.declared.State.{State}
-use Rattle.stage.specs.Plan.{Outcome, carry, viewportArea, indexArea, rowTable, tableIn, nothing}
+use Rattle.stage.specs.Plan.{Outcome, carry, matrixArea, viewportArea, indexArea, rowTable, tableIn, nothing}
 use Rattle.stage.specs.Sound.{limit}
 use Rattle.stage.specs.Opening.{zeros, blank, openingPlan, areas12}
-use Rattle.stage.specs.Matrices.{viewportPlan, geometryPlan, area2}
+use Rattle.stage.specs.Matrices.{matrixPlan, forcePlan, viewportPlan, geometryPlan, area1, area2}
 use Rattle.stage.specs.Load.{loadAreas, LoadAreas, loadMeans}
 use Rattle.stage.specs.Modify.{modifyMeans, inkPlan}
 use Rattle.stage.specs.Draw.{cullPlan, depthPlan, drawMeans}
@@ -189,6 +189,35 @@ inkLit colour = inkCount (drawLit .state) (loadLit .areas .floats) (loadLit .are
 abbrev pub inkRecoloured : ℕ → Outcome (Unit {0})
 inkRecoloured colour = inkCount (drawRecoloured .state) (recolour .areas .1) (recolour .areas .2) (drawRecoloured .areas .0) colour
 
+-- table 1 as opening left it, with room for two entries more; a matrix loaded as top of the stack, and a forced matrix
+abbrev pub roomy : List Float
+roomy = opening .areas .0 ++ zeros 32
+
+unfoldable pub loadMatrix : State → List Float → List ℕ → Outcome (List Float)
+loadMatrix s l bytes = carry area1 (matrixPlan (familyOf (s .microcode)) s (tableIn matrixArea (s .counts) l) 2 bytes 0) s l
+
+unfoldable pub force : State → List Float → List ℕ → Outcome (List Float)
+force s l bytes = carry area1 (forcePlan s (tableIn matrixArea (s .counts) l) bytes 0) s l
+
+-- n times the two bytes a and b; the bytes of a matrix of sixteen equal entries, whole parts of a and b, fractions of c and d
+abbrev pub pairs : ℕ → ℕ → ℕ → List ℕ
+pairs zero a b = []
+pairs (suc n) a b = a ∷ b ∷ pairs n a b
+
+abbrev pub sixteen : ℕ → ℕ → ℕ → ℕ → List ℕ
+sixteen a b c d = pairs 16 a b ++ pairs 16 c d
+
+-- the bytes of a matrix whose first row is -32768, 255 + 65535/65536, 256 + 1/65536, 32767 + 65535/65536, and 0 the rest: two of the sixteen are not exact
+abbrev pub someBytes : List ℕ
+someBytes = (0x80 ∷ 0x00 ∷ 0x00 ∷ 0xFF ∷ 0x01 ∷ 0x00 ∷ 0x7F ∷ 0xFF ∷ replicate 24 0) ++ (0x00 ∷ 0x00 ∷ 0xFF ∷ 0xFF ∷ 0x00 ∷ 0x01 ∷ 0xFF ∷ 0xFF ∷ replicate 24 0)
+
+-- it is loaded, and loaded again, which appends nothing
+unfoldable pub someFirst : Outcome (List Float)
+someFirst = loadMatrix opened roomy someBytes
+
+unfoldable pub someAgain : Outcome (List Float)
+someAgain = loadMatrix (someFirst .state) (someFirst .areas) someBytes
+
 -- a row has this colour word and this light count
 abbrev pub Lit : List ℕ → ℕ → ℕ → ℕ → Type 0
 Lit words row colour lights = (getD words (row * wordWidth + colourWord) 0 ≡ colour) × (getD words (row * wordWidth + lightsWord) 99 ≡ lights)
@@ -226,3 +255,9 @@ pub record Prints : Type 0 where
   pub case14 : (Tells loadUnlit 1 × Done lighting × Tells loadLit 1 × Done drawLit) × (Lit (loadLit .areas .words) 0 0x04030201 0 × Lit (loadLit .areas .words) 1 0x04030201 1 × Lit (loadLit .areas .words) 2 0 1) × (Tells (inkLit 0x04030201) 1 × Tells (inkLit 0) 0)
   -- 15. the lit one set to that colour by modify, and drawn three times: 3 more are counted
   pub case15 : (Done recolour × Done drawRecoloured × (drawRecoloured .areas .0 ≡ 0 ∷ 1 ∷ 2 ∷ 3 ∷ 3 ∷ 3 ∷ [])) × Lit (recolour .areas .2) 3 0x04030201 0 × Tells (inkRecoloured 0x04030201) 4
+  -- 16. sixteen entries of -32768 + 255/256, loaded and forced: each is exact, 0 is told
+  pub case16 : Tells (loadMatrix opened roomy (sixteen 0x80 0x00 0xFF 0x00)) 0 × Tells (force opened roomy (sixteen 0x80 0x00 0xFF 0x00)) 0
+  -- 17. sixteen entries of 32767 + 65535/65536: none is, 16 is told; with no room for the entry nothing is
+  pub case17 : Tells (loadMatrix opened roomy (sixteen 0x7F 0xFF 0xFF 0xFF)) 16 × Tells (force opened roomy (sixteen 0x7F 0xFF 0xFF 0xFF)) 16 × Answers (force opened (opening .areas .0) (sixteen 0x7F 0xFF 0xFF 0xFF)) 9 (1 ∷ [])
+  -- 18. of -32768, 255 + 65535/65536, 256 + 1/65536, 32767 + 65535/65536 and twelve 0 two are not exact; loaded again, where nothing is appended, it tells the same
+  pub case18 : (Tells someFirst 2 × Tells someAgain 2) × ((someFirst .state .counts .matrices ≡ 2) × (someAgain .state .counts .matrices ≡ 2))

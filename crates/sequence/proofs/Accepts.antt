@@ -15,7 +15,7 @@ use Rattle.decide.specs.Family.{flag}
 use Rattle.decide.specs.Judge.{Lent, fits}
 use Rattle.decide.specs.Stack.{popped}
 use Rattle.matrix.specs.Math.{rows, laid, times}
-use Rattle.layout.specs.Layout.{matrixAt}
+use Rattle.layout.specs.Layout.{matrixAt, inexactAt}
 use Rattle.change.specs.declared.Change.{Change}
 use Rattle.change.specs.declared.Asked.{Asked}
 use Rattle.change.specs.declared.Asked.the-variants.{Known, Unknown}
@@ -25,10 +25,10 @@ use Rattle.triangle.specs.Run.{settings, closed}
 use Rattle.triangle.specs.Slot.{bit, held, both, culls}
 use Rattle.vertex.specs.Vertices.{verticesAt}
 use Rattle.stage.specs.declared.State.{State}
-use Rattle.stage.specs.Plan.{Table, Edit, keep, grow, Row, Edits, Plan, refuse, does, unless, pick, lent, judge, appended, appending, untouched}
-use Rattle.stage.specs.Sound.{stateSound}
+use Rattle.stage.specs.Plan.{Table, Edit, keep, grow, Row, Edits, Plan, refuse, does, unless, pick, lent, judge, needs, appended, appending, telling, untouched}
+use Rattle.stage.specs.Sound.{stateSound, sound}
 use Rattle.stage.specs.With.{withCombined, withModel, withViewport, withDrawn}
-use Rattle.stage.specs.Matrices.{edits1, edits2, modelTop, combine, turned, matrixPlan, forcePlan, popPlan, viewportEntry, viewing, viewportPlan}
+use Rattle.stage.specs.Matrices.{edits1, edits2, modelTop, combine, turned, matrixStores, matrixPlan, forceStores, forcePlan, popPlan, viewportEntry, viewing, viewportPlan}
 use Rattle.stage.specs.Load.{LoadTables, settled, settledState, sharedBy, loadEdits, loadLent, loadPlan}
 use Rattle.stage.specs.Rows.{fillSlots}
 use Rattle.stage.specs.Draw.{edits89, judgeCodes, slotsTo, codesOf, culled, cullPlan, near, depthPlan, judgeEver, placed, mark, triangle, runEdit, drawPlan}
@@ -112,17 +112,16 @@ module _ (Q : List ℕ → State → Edits → Type 0) where
   unfolding combine
   on-combine s t m same new = on-appending 1 t m _ (λ e. on-does _ _ _ (same e)) (λ e k. on-does _ _ _ (new e k))
 
-  pub on-matrix : (f : Family) (s : State) (t : Table (List Float)) (flags : ℕ) (bytes : List ℕ) (at : ℕ)
-      → (at + 64 ≤ length bytes → (s′ : State) → s′ ≡ turned (flag (f .push) flags) (flag (f .load) flags) (flag (f .projection) flags) s (matrixAt bytes at) → Accepted Q (combine s′ t (laid (times (modelTop s′) (rows (s′ .projection) 0)))))
-      → Accepted Q (matrixPlan f s t flags bytes at)
-  unfolding matrixPlan
-  on-matrix f s t flags bytes at h =
-      on-unless (stateSound s) 10 [] _
-      (λ _. on-unless (leb (at + 64) (length bytes)) 7 _ _ (λ n. on-judge 8 (lent 1 t keep ∷ []) _ (λ _. h (leb-true _ _ n) _ refl)))
+  -- a number told: Q is asked of it, whatever the plan tells by itself
+  pub on-telling : (n : ℕ) (p : Plan) → Accepted (λ _ t e. Q (n ∷ []) t e) p → Accepted Q (telling n p)
+  unfolding telling Accepted
+  on-telling n (refuse m vs) h = tt
+  on-telling n (does vs t e) h = h
 
-  pub on-force : (s : State) (t : Table (List Float)) (bytes : List ℕ) (at : ℕ) → (at + 64 ≤ length bytes → Accepted Q (combine s t (laid (matrixAt bytes at)))) → Accepted Q (forcePlan s t bytes at)
-  unfolding forcePlan
-  on-force s t bytes at h =
+  -- 64 bytes, and an area for table 1
+  on-reading : (s : State) (t : Table (List Float)) (bytes : List ℕ) (at : ℕ) (p : Plan) → (at + 64 ≤ length bytes → Accepted Q p)
+      → Accepted Q (sound s (needs 64 at bytes (judge 8 (lent 1 t keep ∷ []) p)))
+  on-reading s t bytes at p h =
       on-unless (stateSound s) 10 [] _
       (λ _. on-unless (leb (at + 64) (length bytes)) 7 _ _ (λ n. on-judge 8 (lent 1 t keep ∷ []) _ (λ _. h (leb-true _ _ n))))
 
@@ -255,3 +254,18 @@ module _ (Q : List ℕ → State → Edits → Type 0) where
       (λ q.
       on-judge 9 (lent 8 t (grow (triangle f s a b c)) ∷ lent 9 u (runEdit (u .used) (length (t .used)) (settings asked (culls f (s .geometry)) (s .microcode))) ∷ []) _
       (λ k. on-does _ _ _ (some n h p q k))))))))
+
+-- the two that tell how many entries are not exact: what they store is accepted as before, and Q is asked of that number
+module _ (Q : List ℕ → State → Edits → Type 0) (s : State) (t : Table (List Float)) (bytes : List ℕ) (at : ℕ) where
+  abbrev Told : List ℕ → State → Edits → Type 0
+  Told _ u e = Q (inexactAt bytes at ∷ []) u e
+
+  pub on-matrix : (f : Family) (flags : ℕ)
+      → (at + 64 ≤ length bytes → (s′ : State) → s′ ≡ turned (flag (f .push) flags) (flag (f .load) flags) (flag (f .projection) flags) s (matrixAt bytes at) → Accepted Told (combine s′ t (laid (times (modelTop s′) (rows (s′ .projection) 0)))))
+      → Accepted Q (matrixPlan f s t flags bytes at)
+  unfolding matrixPlan matrixStores
+  on-matrix f flags h = on-telling Q (inexactAt bytes at) _ (on-reading Told s t bytes at _ (λ n. h n _ refl))
+
+  pub on-force : (at + 64 ≤ length bytes → Accepted Told (combine s t (laid (matrixAt bytes at)))) → Accepted Q (forcePlan s t bytes at)
+  unfolding forcePlan forceStores
+  on-force h = on-telling Q (inexactAt bytes at) _ (on-reading Told s t bytes at _ h)

@@ -131,7 +131,7 @@ module _ (F : ℕ → Family) (limit : State → ℕ) (p : Port) where
       → outcome r (with1 (p .areas) x) ≡ result (plan F limit) (matrix flags bytes at) p
   unfolding result plan book
   joined-matrix flags bytes at r x e =
-      joined with1 area1 (p .state) (p .areas) _ _ r x refl (on-matrix (Within with1 area1 (p .state) (p .areas) _) f (p .state) _ flags bytes at (λ _ s _. combined s _)) e
+      joined with1 area1 (p .state) (p .areas) _ _ r x refl (on-matrix (Within with1 area1 (p .state) (p .areas) _) (p .state) _ bytes at f flags (λ _ s _. combined s _)) e
 
   -- forced matrix: table 1
   pub joined-force : (bytes : List ℕ) (at : ℕ) (r : Answered) (x : List Float)

@@ -15,12 +15,12 @@ use Rattle.matrix.specs.Math.{identity, laid}
 use Rattle.matrix.proofs.Believe.{length-laid}
 use Rattle.stage.specs.declared.State.{State}
 use Rattle.stage.specs.declared.Counts.{Counts}
-use Rattle.stage.specs.Plan.{grow, Plan, refuse, does, unless, carry}
+use Rattle.stage.specs.Plan.{grow, Plan, refuse, does, unless, carry, telling}
 use Rattle.stage.specs.Sound.{stateSound, sound}
 use Rattle.numbers.specs.Choice.{all}
 use Rattle.stage.specs.With.{withCounts}
 use Rattle.stage.specs.Opening.{zeros, blank, opened, openingEdits, openingPlan, areas12}
-use Rattle.stage.specs.Matrices.{matrixPlan, forcePlan, popPlan, viewportPlan, geometryPlan}
+use Rattle.stage.specs.Matrices.{matrixStores, matrixPlan, forceStores, forcePlan, popPlan, viewportPlan, geometryPlan}
 use Rattle.stage.specs.Lights.{texturePlan, fogPlan, numberPlan, lightPlan, lookatPlan, microcodePlan}
 use Rattle.stage.specs.Load.{loadPlan}
 use Rattle.stage.specs.Modify.{modifyPlan, inkPlan}
@@ -152,11 +152,16 @@ unsound : (s : State) (q : Plan) → s .opened ≡ false → sound s q ≡ refus
 unfolding stateSound all unless
 unsound s q h = rw h
 
+-- so it is where a number is told
+told-unsound : (n : ℕ) (s : State) (q : Plan) → s .opened ≡ false → telling n (sound s q) ≡ refuse 10 []
+unfolding telling
+told-unsound n s q h = ap (telling n) (unsound s q h)
+
 -- every command refuses it
 pub shut-plan : (F : ℕ → Family) (limit : State → ℕ) (c : Command) (k : Book) → k .state .opened ≡ false → plan F limit c k ≡ refuse 10 []
-unfolding plan matrixPlan forcePlan popPlan viewportPlan geometryPlan texturePlan fogPlan numberPlan lightPlan lookatPlan microcodePlan loadPlan cullPlan depthPlan modifyPlan drawPlan inkPlan
-shut-plan F limit (matrix flags bytes at) k h = unsound (k .state) _ h
-shut-plan F limit (force bytes at) k h = unsound (k .state) _ h
+unfolding plan matrixPlan matrixStores forcePlan forceStores popPlan viewportPlan geometryPlan texturePlan fogPlan numberPlan lightPlan lookatPlan microcodePlan loadPlan cullPlan depthPlan modifyPlan drawPlan inkPlan
+shut-plan F limit (matrix flags bytes at) k h = told-unsound _ (k .state) _ h
+shut-plan F limit (force bytes at) k h = told-unsound _ (k .state) _ h
 shut-plan F limit (pop count) k h = unsound (k .state) _ h
 shut-plan F limit (viewport bytes at) k h = unsound (k .state) _ h
 shut-plan F limit (geometry off on) k h = unsound (k .state) _ h

@@ -332,7 +332,7 @@ module _ (p : Port) (h : Fits p) where
   -- EVERY ACCEPTED PLAN IS SIZED
   pub sized-plan : (F : ℕ → Family) (limit : State → ℕ) (c : Command) → Accepted (Sizes p) (plan F limit c (book p))
   unfolding plan book
-  sized-plan F limit (matrix flags bytes at) = on-matrix (Sizes p) (F (p .state .microcode)) (p .state) _ flags bytes at (λ _ s _. sized-combine s _ (length-laid _))
+  sized-plan F limit (matrix flags bytes at) = on-matrix (Sizes p) (p .state) _ bytes at (F (p .state .microcode)) flags (λ _ s _. sized-combine s _ (length-laid _))
   sized-plan F limit (force bytes at) = on-force (Sizes p) (p .state) _ bytes at (λ _. sized-combine (p .state) _ (length-laid _))
   sized-plan F limit (pop count) = on-pop (Sizes p) (p .state) _ count (λ _. all-kept) (λ _ s _. sized-combine s _ (length-laid _))
   sized-plan F limit (viewport bytes at) =

@@ -16,18 +16,19 @@ use Rattle.stage.specs.declared.Counts.{Counts}
 use Rattle.stage.specs.declared.Answer.{Answer}
 use Rattle.stage.specs.declared.Answer.the-variants.{Done, BadState, ShortData, ShortArea}
 use Rattle.stage.proofs.Answer.{the-type}
-use Rattle.stage.specs.Plan.{keep, Edits, Plan, pick, unless, table, lent, judge, needs, Outcome, outcome, carry}
+use Rattle.stage.specs.Plan.{keep, Edits, Plan, refuse, pick, unless, table, lent, judge, needs, telling, Outcome, outcome, carry}
 use Rattle.stage.specs.Sound.{stateSound, sound}
 use Rattle.stage.specs.Steps.{earlyIn}
 use Rattle.stage.proofs.Judged.{Ranges, ranges}
 use Rattle.stage.proofs.Cascade.{refused, passed, table-holds}
+use Rattle.stage.proofs.Telling.{telling-unless, telling-judge}
 
 -- the tags of every answer but Done
 abbrev pub others : List ℕ
 others = 1 ∷ 2 ∷ 3 ∷ 4 ∷ 5 ∷ 6 ∷ 7 ∷ 8 ∷ 9 ∷ 10 ∷ 11 ∷ []
 
 -- the first tests of a command that reads need bytes from place at on, and is lent table k, of n entries of w numbers in the area l; then p
-abbrev tested : State → ℕ → ℕ → ℕ → ℕ → ℕ → List ℕ → List Float → Plan → Plan
+abbrev pub tested : State → ℕ → ℕ → ℕ → ℕ → ℕ → List ℕ → List Float → Plan → Plan
 tested s k w n need at bytes l p = sound s (needs need at bytes (judge 8 (lent k (table w n l) keep ∷ []) p))
 
 -- those tests of a command that reads no bytes
@@ -87,6 +88,13 @@ module _ (s : State) (k w n need at : ℕ) (bytes : List ℕ) (l : List Float) (
 pub passed-on : (s : State) (k w n need at : ℕ) (bytes : List ℕ) (l : List Float) → Clear s w n need at bytes l → (f : Counts → Edits → List Float → List Float) (p : Plan) (o : Outcome (List Float))
     → o ≡ carry f p s l → o ≡ carry f (tested s k w n need at bytes l p) s l
 passed-on s k w n need at bytes l c f p o h = passed f s l _ _ _ _ o (c .sound) (passed f s l _ _ _ _ o (c .reach) (passed f s l _ _ _ _ o (c .holds) h))
+
+-- a number told with such a plan is told with what follows the first tests
+pub telling-tested : (x : ℕ) (s : State) (k w n need at : ℕ) (bytes : List ℕ) (l : List Float) (p : Plan) → telling x (tested s k w n need at bytes l p) ≡ tested s k w n need at bytes l (telling x p)
+telling-tested x s k w n need at bytes l p =
+    let b = leb (at + need) (length bytes) in
+    telling-unless x (stateSound s) 10 [] _
+    ∙ ap (unless (stateSound s) (refuse 10 [])) (telling-unless x b 7 (need ∷ []) _ ∙ ap (unless b (refuse 7 (need ∷ []))) (telling-judge x 8 (lent k (table w n l) keep ∷ []) p))
 
 -- a command that reads no bytes asks for none of none
 pub bare : (s : State) (k w n : ℕ) (l : List Float) (f : Counts → Edits → List Float → List Float) (p : Plan) (o : Outcome (List Float))

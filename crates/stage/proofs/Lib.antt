@@ -16,6 +16,7 @@ pub mod Opens
 pub mod RowEntries
 pub mod Settling
 pub mod Tabled
+pub mod Telling
 pub mod Turning
 pub mod Verdicts
 pub mod Ways

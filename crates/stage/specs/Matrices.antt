@@ -7,14 +7,14 @@ use lib.Ieee.{Float}
 use Rattle.areas.specs.Area.{put}
 use Rattle.areas.specs.Widths.{matrixWidth}
 use Rattle.matrix.specs.Math.{rows, laid, times}
-use Rattle.layout.specs.Layout.{matrixAt, viewportAt}
+use Rattle.layout.specs.Layout.{matrixAt, inexactAt, viewportAt}
 use Rattle.stage.specs.declared.State.{State}
 use Rattle.stage.specs.declared.Counts.{Counts}
 use Rattle.decide.specs.declared.family.Family.{Family}
 use Rattle.decide.specs.Family.{flag}
 use Rattle.mode.specs.Word.{geometryAfter}
 use Rattle.decide.specs.Stack.{made, pushed, popped, relit}
-use Rattle.stage.specs.Plan.{Table, Edit, keep, Edits, Plan, does, pick, lent, judge, appending, needs, untouched, undrawn, matrixArea, viewportArea, afterIn}
+use Rattle.stage.specs.Plan.{Table, Edit, keep, Edits, Plan, does, pick, lent, judge, appending, needs, telling, untouched, undrawn, matrixArea, viewportArea, afterIn}
 use Rattle.stage.specs.Sound.{sound}
 use Rattle.stage.specs.With.{withGeometry, withModel, withProjection, withCombined, withViewport, withLights, marked}
 
@@ -57,17 +57,25 @@ turned push load projection s m =
     (withProjection s (laid (made load m (rows (s .projection) 0))))
     (withModel s (pushed push (s .depth)) (put (s .stack) (matrixWidth * (pushed push (s .depth) - 1)) (laid (made load m (modelTop s)))))
 
--- Matrix: flags push, load, projection; 64 bytes
-unfoldable pub matrixPlan : Family → State → Table (List Float) → ℕ → List ℕ → ℕ → Plan
-matrixPlan f s t flags bytes at =
+-- what matrix refuses and stores: flags push, load, projection; 64 bytes
+unfoldable pub matrixStores : Family → State → Table (List Float) → ℕ → List ℕ → ℕ → Plan
+matrixStores f s t flags bytes at =
     sound s
     (needs 64 at bytes
     (judge 8 (lent 1 t keep ∷ [])
     (recombine (turned (flag (f .push) flags) (flag (f .load) flags) (flag (f .projection) flags) s (matrixAt bytes at)) t)))
 
--- Forced matrix: 64 bytes become the combined matrix
+-- Matrix: it refuses and stores that, and tells how many of the sixteen entries that it read are not exact
+unfoldable pub matrixPlan : Family → State → Table (List Float) → ℕ → List ℕ → ℕ → Plan
+matrixPlan f s t flags bytes at = telling (inexactAt bytes at) (matrixStores f s t flags bytes at)
+
+-- what forced matrix refuses and stores: 64 bytes become the combined matrix
+unfoldable pub forceStores : State → Table (List Float) → List ℕ → ℕ → Plan
+forceStores s t bytes at = sound s (needs 64 at bytes (judge 8 (lent 1 t keep ∷ []) (combine s t (laid (matrixAt bytes at)))))
+
+-- Forced matrix: it refuses and stores that, and tells as matrix does
 unfoldable pub forcePlan : State → Table (List Float) → List ℕ → ℕ → Plan
-forcePlan s t bytes at = sound s (needs 64 at bytes (judge 8 (lent 1 t keep ∷ []) (combine s t (laid (matrixAt bytes at)))))
+forcePlan s t bytes at = telling (inexactAt bytes at) (forceStores s t bytes at)
 
 -- Pop: the depth lowered by count, never below 1; only a changed depth recomputes
 unfoldable pub popPlan : State → Table (List Float) → ℕ → Plan

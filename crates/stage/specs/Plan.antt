@@ -145,6 +145,11 @@ appending k t e p = judge 9 (lent k t (appended t e) ∷ []) (p (appended t e))
 abbrev pub needs : ℕ → ℕ → List ℕ → Plan → Plan
 needs n at bytes p = unless (leb (at + n) (length bytes)) (refuse 7 (n ∷ [])) p
 
+-- the plan p with the number n told: where p is done, n is what it tells; where p refuses, nothing is added
+unfoldable pub telling : ℕ → Plan → Plan
+telling n (refuse m vs) = refuse m vs
+telling n (does vs t e) = does (n ∷ []) t e
+
 -- ---- outcomes
 
 -- all counts after a command's edits: they are the lengths of what is in use

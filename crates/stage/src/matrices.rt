@@ -215,7 +215,8 @@ impl State {
         Answer::Done
     }
 
-    // Matrix (6): flags push 1, load 2, projection 4, after the exclusive-or with 1 of the command word; 64 bytes.
+    // Matrix (6): flags push 1, load 2, projection 4, after the exclusive-or with 1 of the command word; 64 bytes. It tells how many of the
+    // sixteen entries are not exact, as forced matrix does, appended or not: it is about reading.
     pub fn matrix(mut self, flags: u8, data: &[u8], at: usize, matrices: &mut [f32]) -> Answered
         ensures { λ r. ⌜ outcome r (now (matrices .exit)) ≡ carry area1 (matrixPlan (familyOf (self .microcode)) self (tableIn matrixArea (self .counts) (now (matrices .entry))) flags (now («data» .entry)) at) self (now (matrices .entry)) ⌝ }
     {
@@ -227,6 +228,7 @@ impl State {
         let mut stack = self.stack;
         if let Answer::Done = answer {
             let m = layout::matrix(data, at);
+            let inexact = layout::inexact(data, at);
             let f = flags as u32;
             let p = self.projection;
             let t = decide::stack::take(family, f, m, &mut stack, p, self.depth);
@@ -237,6 +239,7 @@ impl State {
                 answer = Answer::NoRoom(1);
                 stack = old;
             } else {
+                answer = Answer::Told(inexact);
                 self.depth = t.depth;
                 self.projection = projection;
                 self.combined = product;
@@ -261,10 +264,12 @@ impl State {
         let mut answer = self.early_in(data.len(), at, 64, 1, n, room);
         if let Answer::Done = answer {
             let m = matrix::math::to_flat(layout::matrix(data, at));
+            let inexact = layout::inexact(data, at);
             let how = decide::append::append_f32(matrices, MATRIX_WIDTH, n, &m);
             if let Append::Full = how {
                 answer = Answer::NoRoom(1);
             } else {
+                answer = Answer::Told(inexact);
                 self.combined = m;
                 self.defined = true;
                 let used = count_after(how, n);

@@ -1,7 +1,7 @@
 -- `layout::entry` meets its contract. Assumes nothing.
 use borrow.Author.Needs.{needs}
 use mir.Syntax.{w16}
-use Rattle.layout.specs.Layout.{entryAt}
+use Rattle.layout.specs.Layout.{entryAt, exactAt}
 use Rattle.layout.proofs.Signed.{handed}
 use Rattle.layout.proofs.entry.Statement.{statement}
 use Rattle.layout.proofs.entry.Tie as tie
@@ -31,7 +31,7 @@ matrix-entry-requires : tie.Need-matrix-entry-requires
 matrix-entry-requires c κs = search needs
 
 returns : tie.Need-returns
-unfolding entryAt
+unfolding entryAt exactAt
 returns c = rw (c .matrix-entry .ensures, handed w16 (c .before .before .signed-half .ok) (c .before .before .signed-half .ensures), c .before .half .ensures)
 
 pub entry-spec : {M : Type 1} → statement M

@@ -14,7 +14,7 @@ abbrev start : tie.After-early-in → tie.Start
 start c = c .before .before .before .before
 
 abbrev matched : tie.After-slice-known2 → tie.At-match-keys1
-matched c = c .before .before .before .before .before .before .before .before
+matched c = c .before .before .before .before .before .before .before .before .before
 
 -- the first tests are passed
 clear : (c : tie.At-match-keys1) → let a = start (c .before) .args in Clear (a .self) matrixWidth (a .self .counts .matrices) 64 (a .at) (now (a .«data»)) (now (a .matrices))
@@ -37,6 +37,9 @@ matrix-requires c κs = leb-true _ _ (clear (c .before) .reach)
 to-flat-requires : tie.Need-to-flat-requires
 to-flat-requires c κs = tt
 
+inexact-requires : tie.Need-inexact-requires
+inexact-requires c κs = leb-true _ _ (clear (c .before .before .before) .reach)
+
 slice-aggregate-append-f32 : tie.Need-slice-aggregate-append-f32
 slice-aggregate-append-f32 c = search needs
 
@@ -55,7 +58,7 @@ same-length c = search needs
 returns : tie.Need-returns
 returns c =
     let d = c .before .before in
-    force-full _ _ _ _ (clear (matched d)) _ _ _ _ (d .before .before .before .before .before .before .matrix .ensures) (d .before .before .before .before .before .to-flat .ensures) (d .before .before .append-f32 .ensures) (c .enum-told2 .given .1)
+    force-full _ _ _ _ (clear (matched d)) _ _ _ _ (d .before .before .before .before .before .before .before .matrix .ensures) (d .before .before .before .before .before .before .to-flat .ensures) (d .before .before .append-f32 .ensures) (c .enum-told2 .given .1)
 
 same-length-2 : tie.Need-same-length-2
 same-length-2 c = search needs
@@ -63,8 +66,8 @@ same-length-2 c = search needs
 returns-2 : tie.Need-returns-2
 returns-2 c =
     let d = c .before .before .before in
-    force-new _ _ _ _ (clear (matched d)) _ _ _ _ (d .before .before .before .before .before .before .matrix .ensures) (d .before .before .before .before .before .to-flat .ensures) (d .before .before .append-f32 .ensures) _
-    (d .before .before .before .before .before .before .before .enum-told .given .1) _ (c .before .count-after .ensures) (c .before .before .match2 .keys2)
+    force-new _ _ _ _ (clear (matched d)) _ _ _ _ (d .before .before .before .before .before .before .before .matrix .ensures) (d .before .before .before .before .before .before .to-flat .ensures) (d .before .before .append-f32 .ensures) _
+    (d .before .before .before .before .before .inexact .ensures) _ (c .before .count-after .ensures) (c .before .before .match2 .keys2)
 
 returns-3 : tie.Need-returns-3
 returns-3 c = force-refused _ _ _ _ _ _ (c .before .before .room-of .ensures) (c .before .early-in .ensures) (c .match .keys2)
@@ -78,6 +81,7 @@ force-matrix-spec =
     enum-told
     matrix-requires
     to-flat-requires
+    inexact-requires
     slice-aggregate-append-f32
     append-f32-requires
     enum-told-2

@@ -20,7 +20,7 @@ abbrev start : tie.After-early-in → tie.Start
 start c = c .before .before .before .before .before
 
 abbrev told : tie.After-stack2 → tie.After-enum-told
-told c = c .before .before .before
+told c = c .before .before .before .before
 
 abbrev taken : tie.After-slice-known2 → tie.After-take
 taken c = c .before .before .before .before .before .before .before
@@ -46,6 +46,9 @@ enum-told c = search needs
 matrix-requires : tie.Need-matrix-requires
 matrix-requires c κs = leb-true _ _ (clear (c .before) .reach)
 
+inexact-requires : tie.Need-inexact-requires
+inexact-requires c κs = leb-true _ _ (clear (c .before .before) .reach)
+
 take-requires : tie.Need-take-requires
 take-requires c κs = let r = in-range (clear (told c .before)) in (r .low, r .high)
 
@@ -62,20 +65,20 @@ count-after-requires : tie.Need-count-after-requires
 count-after-requires c κs = in-range (clear (told (taken (c .before) .before) .before)) .matrices
 
 same-length : tie.Need-same-length
-same-length c = ⊎-elim (λ w. ap length (w .16) ∙ w .11 .given) (⊎-elim (λ w. ap length (w .17) ∙ w .11 .given) (λ w. ap length (w .2))) (c .match .came)
+same-length c = ⊎-elim (λ w. ap length (w .17) ∙ w .12 .given) (⊎-elim (λ w. ap length (w .18) ∙ w .12 .given) (λ w. ap length (w .2))) (c .match .came)
 
 returns : tie.Need-returns
 returns c =
     let e = answered (c .before) in
     let f = e .before .before .family-of .ensures in
     ⊎-elim
-    (λ w. came-from _ _ _ _ _ _ _ _ _ (w .15) (w .16) (w .17) (w .18)
-    (matrix-full _ _ _ _ _ (clear (record { before = c .before; match = w .0 })) _ _ _ _ _ _ _ _ f (w .2 .ensures) (w .5 .ensures .0) (w .5 .ensures .1 .0) (w .5 .ensures .1 .1 .0) (w .5 .ensures .1 .1 .1) (w .10 .ensures)
-    (w .14 .given .1)))
-    (⊎-elim
     (λ w. came-from _ _ _ _ _ _ _ _ _ (w .16) (w .17) (w .18) (w .19)
-    (matrix-new _ _ _ _ _ (clear (record { before = c .before; match = w .0 })) _ _ _ _ _ _ _ _ f (w .2 .ensures) (w .5 .ensures .0) (w .5 .ensures .1 .0) (w .5 .ensures .1 .1 .0) (w .5 .ensures .1 .1 .1) (w .10 .ensures)
-    _ (w .1 .given .1) _ (w .14 .ensures) (w .13 .keys2)))
+    (matrix-full _ _ _ _ _ (clear (record { before = c .before; match = w .0 })) _ _ _ _ _ _ _ _ f (w .2 .ensures) (w .6 .ensures .0) (w .6 .ensures .1 .0) (w .6 .ensures .1 .1 .0) (w .6 .ensures .1 .1 .1) (w .11 .ensures)
+    (w .15 .given .1)))
+    (⊎-elim
+    (λ w. came-from _ _ _ _ _ _ _ _ _ (w .17) (w .18) (w .19) (w .20)
+    (matrix-new _ _ _ _ _ (clear (record { before = c .before; match = w .0 })) _ _ _ _ _ _ _ _ f (w .2 .ensures) (w .6 .ensures .0) (w .6 .ensures .1 .0) (w .6 .ensures .1 .1 .0) (w .6 .ensures .1 .1 .1) (w .11 .ensures)
+    _ (w .3 .ensures) _ (w .15 .ensures) (w .14 .keys2)))
     (λ w. came-from _ _ _ _ _ _ _ _ _ (w .1) (w .2) (w .3) (w .4) (matrix-refused _ _ _ _ _ _ _ (e .before .room-of .ensures) (e .early-in .ensures) (w .0 .keys2))))
     (c .match .came)
 
@@ -88,6 +91,7 @@ matrix-spec =
     early-in-requires
     enum-told
     matrix-requires
+    inexact-requires
     take-requires
     slice-aggregate-append-f32
     append-f32-requires
