@@ -11,8 +11,7 @@ use lib.Seq.{getD-drop}
 use lib.IntN.{ℤ, pos, natAbs}
 use lib.Ieee.{binary32}
 use lib.Ieee.Exact.{HasValue}
-use Rattle.numbers.specs.Ratio.{signed, below0, ofRatio, parts}
-use Rattle.numbers.proofs.Significant.{Significant}
+use Rattle.numbers.specs.Ratio.{signed, below0, ofRatio, parts, Significant}
 use Rattle.numbers.proofs.Believe.{half-fits, exact-means, exact-digits}
 use Rattle.layout.specs.Layout.{byteAt, halfAt, wordAt, signedAt, entryAt, rowAt, matrixAt, exactAt, inexactAt, vertexAt, tripleAt, viewportAt, colourAt, directionAt, lightAt}
 use Rattle.layout.proofs.Counting.{noes-same, noes-most, noes-none, noes-all}

@@ -1,8 +1,8 @@
 -- Marks that say no, counted one by one. Assumes nothing.
-use mathlib.Core.Path.{_≡_, refl, _∙_, subst}
+use mathlib.Core.Path.{_≡_, refl, subst}
 use mathlib.Core.Logic.{_↔_}
 use Prim.Native.Nat.{ℕ, zero, suc, _+_, _≤_, _<_}
-use native.Mathlib.Numerals.{add-one}
+use native.Mathlib.Nat.{add-zero}
 use native.Mathlib.Omega.{arith}
 use mathlib.Core.Bool.{Bool, true, false, not}
 use lib.Dec.{T, ltb, ltb→lt, nltb→le}
@@ -34,10 +34,6 @@ module _ (b : ℕ → Bool) where
       go true h = omega arith
       go false h = omega arith
 
-  -- so a count of some of m marks is at most m
-  pub noes-under : (n k m : ℕ) → n ≡ noes b k → k ≤ m → n ≤ m
-  noes-under n k m e h = omega (arith, e, noes-most k)
-
   -- NONE exactly where each mark says yes
   pub noes-none : (n : ℕ) → (noes b n ≡ 0) ↔ ((k : ℕ) → k < n → b k ≡ true)
   unfolding noes pick
@@ -64,11 +60,13 @@ module _ (b : ℕ → Bool) where
       go true q e f = absurd (omega (arith, noes-most n))
       go false q e f = upto (λ (k : ℕ). b k ≡ false) n (f (omega arith)) q
 
-  -- one mark more, as a loop counts it
-  pub noes-more : (t : Bool) (n m k : ℕ) → n ≡ noes b k → t ≡ b k → m ≡ pick t n (n + 1) → m ≡ noes b (k + 1)
-  unfolding noes pick
-  noes-more t n m k h e d = rw (add-one, ← e, ← h) (d ∙ step t)
-    where
-      step : (t : Bool) → pick t n (n + 1) ≡ n + pick t 0 1
-      step true = omega arith
-      step false = omega arith
+  -- four from k on, as a row counts them
+  pub noes-four : (k w x y z : ℕ) → w ≡ pick (b k) 0 1 → x ≡ pick (b (k + 1)) 0 1 → y ≡ pick (b (k + 2)) 0 1 → z ≡ pick (b (k + 3)) 0 1 → w + x + y + z ≡ noes (λ j. b (k + j)) 4
+  unfolding noes
+  noes-four k w x y z e f g h = let o : w ≡ pick (b (k + 0)) 0 1 = rw (add-zero) e in omega (arith, o, f, g, h)
+
+-- sixteen, as four rows count them
+pub noes-rows : (b : ℕ → Bool) (w x y z : ℕ) → w ≡ noes (λ j. b (0 + j)) 4 → x ≡ noes (λ j. b (4 + j)) 4 → y ≡ noes (λ j. b (8 + j)) 4 → z ≡ noes (λ j. b (12 + j)) 4
+    → w + x + y + z ≡ noes b 16
+unfolding noes
+noes-rows b w x y z e f g h = omega (arith, e, f, g, h)

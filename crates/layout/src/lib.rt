@@ -3,7 +3,8 @@
 ghost use mathlib.Core.Path.{_≡_};
 ghost use Prim.Native.Nat.{_+_, _≤_, _<_};
 ghost use lib.ListN.{length};
-ghost use Rattle.layout.specs.Layout.{byteAt, halfAt, wordAt, signedAt, ratioAt, entryAt, rowAt, matrixAt, exactAt, inexactAt, vertexAt, tripleAt, viewportAt, colourAt, axisAt, directionAt, lightAt};
+ghost use Rattle.numbers.specs.Choice.{pick};
+ghost use Rattle.layout.specs.Layout.{byteAt, halfAt, wordAt, signedAt, ratioAt, entryAt, rowAt, matrixAt, exactAt, noes, inexactAt, vertexAt, tripleAt, viewportAt, colourAt, axisAt, directionAt, lightAt};
 use crate::records::Light;
 use crate::records::Vertex;
 use crate::records::Viewport;
@@ -71,19 +72,39 @@ pub fn matrix(s: &[u8], at: usize) -> [[f32; 4]; 4]
     [row(s, at, 0), row(s, at, 4), row(s, at, 8), row(s, at, 12)]
 }
 
-// How many of its sixteen entries are not exact.
+// 1 for an entry that is not exact.
+fn lost(e: Entry) -> u32
+    ensures { λ r. ⌜ (r ≡ pick (e .exact) 0 1) × (r ≤ 1) ⌝ }
+{
+    if e.exact {
+        0
+    } else {
+        1
+    }
+}
+
+// How many of the entries `k` to `k + 3` are not exact.
+fn row_inexact(s: &[u8], at: usize, k: usize) -> u32
+    requires { ⌜ (at + 64 ≤ length (now s)) × (k + 4 ≤ 16) ⌝ }
+    ensures { λ r. ⌜ (r ≡ noes (λ j. exactAt (now (s .entry)) at (k + j)) 4) × (r ≤ 4) ⌝ }
+{
+    let a = entry(s, at, k);
+    let b = entry(s, at, k + 1);
+    let c = entry(s, at, k + 2);
+    let d = entry(s, at, k + 3);
+    lost(a) + lost(b) + lost(c) + lost(d)
+}
+
+// How many of a matrix's sixteen entries are not exact. In `matrix`'s order and without a loop, so that the compiler reads
+// each entry once for both.
 pub fn inexact(s: &[u8], at: usize) -> u32
     requires { ⌜ at + 64 ≤ length (now s) ⌝ }
     ensures { λ r. ⌜ r ≡ inexactAt (now (s .entry)) at ⌝ }
 {
-    let mut count: u32 = 0;
-    for k in 0..16 {
-        let e = entry(s, at, k);
-        if !e.exact {
-            count = count + 1;
-        }
-    }
-    count
+    row_inexact(s, at, 0)
+        + row_inexact(s, at, 4)
+        + row_inexact(s, at, 8)
+        + row_inexact(s, at, 12)
 }
 
 // A half read with its sign, as a float.

@@ -18,13 +18,13 @@ use lib.Ieee.Positive.{positive}
 use mir.Syntax.{Width, w16}
 use mir.Val.{SFits, hbits}
 use Rattle.numbers.specs.Choice.{pick}
-use Rattle.numbers.specs.Ratio.{signed, below0, ofRatio, isRatio, parts, entry, exact}
+use Rattle.numbers.specs.Ratio.{signed, below0, ofRatio, isRatio, parts, entry, exact, Significant}
 use Rattle.numbers.specs.Sqrt.{rootBy, rooted, sqrt}
 use Rattle.numbers.proofs.Halves.{signed-low, signed-high}
 use Rattle.numbers.proofs.Quotients.{round-fix}
 use Rattle.numbers.proofs.Losses.{signs, wide-exact}
 use Rattle.numbers.proofs.Parts.{parts-small}
-use Rattle.numbers.proofs.Significant.{Significant, significant-held, held-significant, parts-by-256, odd-not}
+use Rattle.numbers.proofs.Significant.{significant-held, held-significant, parts-by-256, odd-not}
 use Rattle.numbers.proofs.Values.{placed, same-size, value-unique}
 use Rattle.numbers.proofs.Root.{square, square-shift, rounded}
 use Rattle.numbers.proofs.Rooted.{in-range, written, rooted-at, sqrt-value}

@@ -13,19 +13,12 @@ use lib.Ieee.Digits.{back}
 use lib.Ieee.Exact.{HasValue, round-exact}
 use mir.Syntax.{w16}
 use mir.Val.{SFits}
-use Rattle.numbers.specs.Ratio.{parts}
+use Rattle.numbers.specs.Ratio.{parts, Significant}
 use Rattle.numbers.proofs.Quotients.{rescale, down-le}
 use Rattle.numbers.proofs.Values.{placed, no-size, same-size}
 use Rattle.numbers.proofs.Parts.{parts-neg}
 
--- n has at most 24 significant binary digits: it is so many, with zeros behind them
-pub record Significant (n : ℕ) : Type 0 where
-  pub digits : ℕ
-  pub zeros : ℕ
-  pub few : digits < 2 ^ 24
-  pub is : n ≡ digits * 2 ^ zeros
-
--- an f32 holds such a number divided by 65536
+-- an f32 holds a number of at most 24 significant binary digits divided by 65536
 pub significant-held : (s : Bool) (n : ℕ) → n < 2 ^ 32 → Significant n → HasValue (round binary32 s n 65536) s n 65536
 significant-held s n h d =
     let q = d .digits in

@@ -1,5 +1,6 @@
 -- Bits read with a sign; a fraction rounded once to a format; a matrix entry, and whether its rounding lost anything. Definitions only.
-use Prim.Native.Nat.{ℕ, _-_, _*_, _^_}
+use Prim.Native.Nat.{ℕ, _-_, _*_, _^_, _<_}
+use mathlib.Core.Path.{_≡_}
 use mathlib.Core.Bool.{Bool, true, false, _&&_, Bool·beq}
 use lib.IntN.{ℤ, pos, negsuc, _+ℤ_, _*ℤ_, natAbs}
 use lib.Dec.{eqb, ltb}
@@ -37,3 +38,10 @@ entry whole fraction = ofRatio binary32 (parts whole fraction) 65536
 -- the matrix entry is not changed by its rounding
 abbrev pub exact : ℤ → ℕ → Bool
 exact whole fraction = isRatio (entry whole fraction) (parts whole fraction) 65536
+
+-- n has at most 24 significant binary digits: so many, with zeros behind them. An entry is exact where its value in parts of 65536 has (proofs/Believe.antt, exact-digits)
+pub record Significant (n : ℕ) : Type 0 where
+  pub digits : ℕ
+  pub zeros : ℕ
+  pub few : digits < 2 ^ 24
+  pub is : n ≡ digits * 2 ^ zeros
