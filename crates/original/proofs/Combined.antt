@@ -27,7 +27,7 @@ use Rattle.original.specs.Rsp.{Viewports, Texcoords, Matrices, eq-mat, l
 use Rattle.original.specs.Drawing.{Columns, Result, Ok, Err}
 use Rattle.original.specs.Walk.{World, Went, with-matrices, with-rsp, execute}
 use Rattle.original.specs.Relation.{MatrixSame, Near}
-use Rattle.original.specs.Domain.{compared, Data, Agrees}
+use Rattle.original.specs.Domain.{alsoTold, Data, Agrees}
 use Rattle.original.proofs.Alike.{has-push, has-load, has-projection, popped-same}
 use Rattle.original.proofs.Nears.{space-near}
 use Rattle.original.proofs.Readers.{matrix-same}
@@ -93,7 +93,7 @@ module _ {D : Bool → Bool → Type 0} {G : ℕ → ℕ → Type 0} {P : List F
 
 module _ {D : Bool → Bool → Type 0} {G : ℕ → ℕ → Type 0} {P : List Float → List (List Float) → Viewports → Type 0} {X : ℕ → List (List Float) → Texcoords → Type 0} {R : List Row → Columns → Type 0} {k : Book} {w : World} (N : Near D G P X R k w) where
   abbrev Owes : Command → Type 0
-  Owes c = Accepted (λ vs t e. Agrees (Near _≡_ G P X R) (compared c vs) (enter t e k) (execute c w)) (plan familyOf limit c k)
+  Owes c = Accepted (λ vs t e. Agrees (Near _≡_ G P X R) (alsoTold c vs) (enter t e k) (execute c w)) (plan familyOf limit c k)
 
   -- edits entered with another state of the same counts
   entered : (s t : State) (e : Edits) → s .counts ≡ k .state .counts → enter t e (withState k s) ≡ enter t e k

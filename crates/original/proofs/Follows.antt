@@ -16,7 +16,7 @@ use Rattle.sequence.proofs.Accepts.{Accepted}
 use Rattle.original.specs.Drawing.{Result, Ok, Err}
 use Rattle.original.specs.Walk.{World, Went, execute}
 use Rattle.original.specs.Relation.{Offsets, Same}
-use Rattle.original.specs.Domain.{Within, Agrees, IsDone, stage, AllDone, isInk, sent, compared, told, AllWithin, Walked, walk}
+use Rattle.original.specs.Domain.{Within, Agrees, IsDone, stage, AllDone, isInk, sent, alsoTold, told, AllWithin, Walked, walk}
 use Rattle.original.proofs.Inks.{by-ink, ink-turns}
 use Rattle.original.proofs.Settings.{texture-agrees, fog-agrees, number-agrees, light-agrees, lookat-agrees, geometry-agrees, microcode-agrees}
 use Rattle.original.proofs.Combined.{matrix-agrees, force-agrees, pop-agrees}
@@ -28,7 +28,7 @@ use Rattle.original.proofs.Loads.{load-agrees}
 
 -- what is owed of a command: the relation S before, the relation T after it
 abbrev pub Owed : (Book → World → Type 0) → Command → Book → World → Type 0
-Owed T c k w = Accepted (λ vs t e. Agrees T (compared c vs) (enter t e k) (execute c w)) (stage c k)
+Owed T c k w = Accepted (λ vs t e. Agrees T (alsoTold c vs) (enter t e k) (execute c w)) (stage c k)
 
 -- EVERY ACCEPTED COMMAND OF THE DOMAIN that the original is sent: it is done too, tells the same but for the count of a matrix, and leaves the same
 pub agrees : (o : Offsets) (k : Book) (w : World) → Same o k w → (c : Command) → isInk c ≡ false → Within c → Owed (Same o) c k w
@@ -66,7 +66,7 @@ DoneFrom (c ∷ cs) k = IsDone (stage c k) × DoneFrom cs (turn (stage c k) k)
 -- what each tells that the original tells too, but for the ink counts
 abbrev pub tellings : List Command → Book → List (List ℕ)
 tellings [] k = []
-tellings (c ∷ cs) k = cond (isInk c) (tellings cs (turn (stage c k) k)) (compared c (tells (stage c k)) ∷ tellings cs (turn (stage c k) k))
+tellings (c ∷ cs) k = cond (isInk c) (tellings cs (turn (stage c k) k)) (alsoTold c (tells (stage c k)) ∷ tellings cs (turn (stage c k) k))
 
 -- the answer's values are what the plan tells
 answer-tells : (c : Command) (p : Port) → result stage c p .values ≡ tells (stage c (book p))
@@ -83,7 +83,7 @@ on-books [] p h d = (tt, refl)
 on-books (c ∷ cs) p h d =
     let s = step-book familyOf limit c p h in
     let r = on-books cs (step stage c p) (s .0) (d .1) in
-    ((d .0, subst (DoneFrom cs) (s .2) (r .0)), ap₂ (λ (a : List ℕ) (b : List (List ℕ)). cond (isInk c) b (a ∷ b)) (ap (compared c) (answer-tells c p)) (r .1 ∙ ap (tellings cs) (s .2)))
+    ((d .0, subst (DoneFrom cs) (s .2) (r .0)), ap₂ (λ (a : List ℕ) (b : List (List ℕ)). cond (isInk c) b (a ∷ b)) (ap (alsoTold c) (answer-tells c p)) (r .1 ∙ ap (tellings cs) (s .2)))
 
 -- and the other way round
 pub on-port : (cs : List Command) (p : Port) → Fits p → DoneFrom cs (book p) → AllDone cs p
@@ -95,20 +95,20 @@ on-port (c ∷ cs) p h d = let s = step-book familyOf limit c p h in (d .0, on-p
 pub record Stepped (T : Book → World → Type 0) (c : Command) (k : Book) (w : World) : Type 0 where
   pub went : Went
   pub is : execute c w ≡ Ok went
-  pub values : compared c (tells (stage c k)) ≡ went .values
+  pub values : alsoTold c (tells (stage c k)) ≡ went .values
   pub after : T (turn (stage c k) k) (went .world)
 
 pub stepped : (T : Book → World → Type 0) (c : Command) (k : Book) (w : World) → Owed T c k w → IsDone (stage c k) → Stepped T c k w
 unfolding turn Accepted
 stepped T c k w o d = go (stage c k) refl o d (execute c w) refl
   where
-    found : (vs : List ℕ) (t : State) (e : Edits) → stage c k ≡ does vs t e → Agrees T (compared c vs) (enter t e k) (execute c w) → (r : Result Went) → execute c w ≡ r → Stepped T c k w
+    found : (vs : List ℕ) (t : State) (e : Edits) → stage c k ≡ does vs t e → Agrees T (alsoTold c vs) (enter t e k) (execute c w) → (r : Result Went) → execute c w ≡ r → Stepped T c k w
     found vs t e q a (Ok g) x =
-        let b : Agrees T (compared c vs) (enter t e k) (Ok g) = subst (Agrees T (compared c vs) (enter t e k)) x a in
-        record { went = g; is = x; values = ap (λ (p : Plan). compared c (tells p)) q ∙ b .0; after = subst (λ (p : Plan). T (turn p k) (g .world)) (sym q) (b .1) }
-    found vs t e q a (Err z) x = absurd (subst (Agrees T (compared c vs) (enter t e k)) x a)
+        let b : Agrees T (alsoTold c vs) (enter t e k) (Ok g) = subst (Agrees T (alsoTold c vs) (enter t e k)) x a in
+        record { went = g; is = x; values = ap (λ (p : Plan). alsoTold c (tells p)) q ∙ b .0; after = subst (λ (p : Plan). T (turn p k) (g .world)) (sym q) (b .1) }
+    found vs t e q a (Err z) x = absurd (subst (Agrees T (alsoTold c vs) (enter t e k)) x a)
 
-    go : (p : Plan) → stage c k ≡ p → Accepted (λ vs t e. Agrees T (compared c vs) (enter t e k) (execute c w)) p → IsDone p → (r : Result Went) → execute c w ≡ r → Stepped T c k w
+    go : (p : Plan) → stage c k ≡ p → Accepted (λ vs t e. Agrees T (alsoTold c vs) (enter t e k) (execute c w)) p → IsDone p → (r : Result Went) → execute c w ≡ r → Stepped T c k w
     go (refuse n vs) q a i r x = absurd i
     go (does vs t e) q a i r x = found vs t e q a r x
 

@@ -94,30 +94,30 @@ abbrev pub sent : List Command → List Command
 sent [] = []
 sent (c ∷ cs) = cond (isInk c) (sent cs) (c ∷ sent cs)
 
--- of an answer's values, those that are compared: the original does not say how many entries of a matrix are not exact, so that number is left aside
-abbrev pub compared : Command → List ℕ → List ℕ
-compared (matrix flags bytes at) vs = []
-compared (force bytes at) vs = []
-compared (pop count) vs = vs
-compared (viewport bytes at) vs = vs
-compared (geometry off on) vs = vs
-compared (texture tile level on sc tc) vs = vs
-compared (fog multiplier offset) vs = vs
-compared (number bytes) vs = vs
-compared (light slot bytes at) vs = vs
-compared (lookat slot bytes at) vs = vs
-compared (microcode to) vs = vs
-compared (load first count bytes at) vs = vs
-compared (cull first last) vs = vs
-compared (depth slot threshold) vs = vs
-compared (modify slot attribute value) vs = vs
-compared (draw a b c material mode colour prim) vs = vs
-compared (ink colour) vs = vs
+-- of an answer's values, those that the original tells too: it does not count a matrix's entries that are not exact, so that number is left aside
+abbrev pub alsoTold : Command → List ℕ → List ℕ
+alsoTold (matrix flags bytes at) vs = []
+alsoTold (force bytes at) vs = []
+alsoTold (pop count) vs = vs
+alsoTold (viewport bytes at) vs = vs
+alsoTold (geometry off on) vs = vs
+alsoTold (texture tile level on sc tc) vs = vs
+alsoTold (fog multiplier offset) vs = vs
+alsoTold (number bytes) vs = vs
+alsoTold (light slot bytes at) vs = vs
+alsoTold (lookat slot bytes at) vs = vs
+alsoTold (microcode to) vs = vs
+alsoTold (load first count bytes at) vs = vs
+alsoTold (cull first last) vs = vs
+alsoTold (depth slot threshold) vs = vs
+alsoTold (modify slot attribute value) vs = vs
+alsoTold (draw a b c material mode colour prim) vs = vs
+alsoTold (ink colour) vs = vs
 
 -- those values of each answer that the stage, sent them all, gives to the commands that are sent
 abbrev pub told : List Command → Port → List (List ℕ)
 told [] p = []
-told (c ∷ cs) p = cond (isInk c) (told cs (step stage c p)) (compared c (result stage c p .values) ∷ told cs (step stage c p))
+told (c ∷ cs) p = cond (isInk c) (told cs (step stage c p)) (alsoTold c (result stage c p .values) ∷ told cs (step stage c p))
 
 -- each is within the domain
 abbrev pub AllWithin : List Command → Type 0
