@@ -132,10 +132,14 @@ CASES = {
                               ["6 draw 0", "7 cull 3 0", "t9 0 0 0 0 0 0 1 0 3"]),
 }
 FIVE = inexact_at(range(5))
+SOME = [-32768, 255 + 65535 / 65536, 256 + 1 / 65536, 32767 + 65535 / 65536] + [0] * 12
 AS_READ = [f32(x) for x in FIVE]
 THREE = bytes_of.diagonal(*[256 + 1 / 65536] * 3, 1)
 # How many entries of a matrix are inexact is told where it is read, whatever becomes of it.
 ROUNDED = {
+    "16-none-rounded": read_as_both([[-32768 + 255 / 256] * 16], [0]),
+    "17-all-rounded": read_as_both([[32767 + 65535 / 65536] * 16], [16]),
+    "18-some-rounded": ([op("open"), matrix(2, SOME), matrix(2, SOME)], told(1, "matrix", [2] * 2) + ["counts 2 1 0 0 0 0 0 0 0"]),
     "inexact-none": read_as_both(EXACT, [0] * 3),
     "inexact-all": read_as_both(INEXACT, [16] * 2),
     "inexact-count": read_as_both([inexact_at(range(n)) for n in range(17)], range(17)),

@@ -1,5 +1,5 @@
 -- A number told with a plan: all else is the plan's. Assumes nothing.
-use mathlib.Core.Path.{_≡_, refl, ap, _∙_}
+use mathlib.Core.Path.{_≡_, refl, sym, ap, _∙_, subst}
 use Prim.Native.Nat.{ℕ}
 use mathlib.Core.Bool.{Bool, true, false}
 use mathlib.Core.List.{List, [], _∷_}
@@ -42,19 +42,44 @@ unfolding telling carry
 telling-stores f n (refuse m vs) s l = record { state = refl; number = refl; areas = refl }
 telling-stores f n (does vs t e) s l = record { state = refl; number = refl; areas = refl }
 
--- a refusal tells what it told; what is done tells the number and nothing else
-pub telling-tells : {A : Type 0} (f : Counts → Edits → A → A) (n : ℕ) (s : State) (l : A)
-    → ((m : ℕ) (vs : List ℕ) → carry f (telling n (refuse m vs)) s l .values ≡ vs) × ((vs : List ℕ) (t : State) (e : Edits) → carry f (telling n (does vs t e)) s l .values ≡ n ∷ [])
-unfolding telling carry
-telling-tells f n s l = (λ m vs. refl, λ vs t e. refl)
+-- what is told by a plan, and that it is done
+abbrev toldBy : Plan → List ℕ
+toldBy (refuse m vs) = vs
+toldBy (does vs t e) = vs
 
-module _ {A : Type 0} (g : Counts → Edits → A → A) (s : State) (t : Table (List Float)) (bytes : List ℕ) (at : ℕ) (l : A) where
-  -- so it is of matrix
-  pub matrix-stores : (f : Family) (flags : ℕ) → Stores (carry g (matrixPlan f s t flags bytes at) s l) (carry g (matrixStores f s t flags bytes at) s l)
+abbrev IsDone : Plan → Type 0
+IsDone (refuse m vs) = ⊥
+IsDone (does vs t e) = Unit {0}
+
+-- WHAT IS DONE TELLS THE NUMBER and nothing else, whatever is stored with it
+pub telling-tells : (n : ℕ) (p : Plan) (vs : List ℕ) (t : State) (e : Edits) → telling n p ≡ does vs t e → vs ≡ n ∷ []
+unfolding telling
+telling-tells n (refuse m ws) vs t e q = absurd (subst IsDone (sym q) tt)
+telling-tells n (does ws u d) vs t e q = ap toldBy (sym q)
+
+-- A REFUSAL IS THE PLAN'S OWN, with its own values
+pub telling-refuses : (n : ℕ) (p : Plan) (m : ℕ) (vs : List ℕ) → telling n p ≡ refuse m vs → p ≡ refuse m vs
+unfolding telling
+telling-refuses n (refuse k ws) m vs q = q
+telling-refuses n (does ws u d) m vs q = absurd (subst IsDone q tt)
+
+-- ---- so it is of matrix and of forced matrix
+
+module _ (s : State) (t : Table (List Float)) (bytes : List ℕ) (at : ℕ) where
+  -- what they store
+  pub matrix-stores : {A : Type 0} (g : Counts → Edits → A → A) (l : A) (f : Family) (flags : ℕ) → Stores (carry g (matrixPlan f s t flags bytes at) s l) (carry g (matrixStores f s t flags bytes at) s l)
   unfolding matrixPlan
-  matrix-stores f flags = telling-stores g (inexactAt bytes at) (matrixStores f s t flags bytes at) s l
+  matrix-stores g l f flags = telling-stores g (inexactAt bytes at) (matrixStores f s t flags bytes at) s l
 
-  -- and of forced matrix
-  pub force-stores : Stores (carry g (forcePlan s t bytes at) s l) (carry g (forceStores s t bytes at) s l)
+  pub force-stores : {A : Type 0} (g : Counts → Edits → A → A) (l : A) → Stores (carry g (forcePlan s t bytes at) s l) (carry g (forceStores s t bytes at) s l)
   unfolding forcePlan
-  force-stores = telling-stores g (inexactAt bytes at) (forceStores s t bytes at) s l
+  force-stores g l = telling-stores g (inexactAt bytes at) (forceStores s t bytes at) s l
+
+  -- what they tell where they are done, whatever the flags, the state and the tables, appended or not
+  pub matrix-tells : (f : Family) (flags : ℕ) (vs : List ℕ) (u : State) (e : Edits) → matrixPlan f s t flags bytes at ≡ does vs u e → vs ≡ inexactAt bytes at ∷ []
+  unfolding matrixPlan
+  matrix-tells f flags vs u e q = telling-tells (inexactAt bytes at) (matrixStores f s t flags bytes at) vs u e q
+
+  pub force-tells : (vs : List ℕ) (u : State) (e : Edits) → forcePlan s t bytes at ≡ does vs u e → vs ≡ inexactAt bytes at ∷ []
+  unfolding forcePlan
+  force-tells vs u e q = telling-tells (inexactAt bytes at) (forceStores s t bytes at) vs u e q
