@@ -73,7 +73,7 @@ module _ {s t : List ℕ} {from to : ℕ} (a : Agree s t from to) where
   -- so does the count of its entries that are not exact
   pub inexact-reads : Reads inexactAt 64 s t from to
   unfolding inexactAt
-  inexact-reads i h = noes-same (exactAt s i) (exactAt t i) 16 (λ k l. exact-reads k l i h)
+  inexact-reads i h = noes-same (exactAt s i) (exactAt t i) _ (λ k l. exact-reads k (omega (arith, l)) i h)
 
 module _ {s t : List ℕ} (i : ℕ) where
   -- a vertex reads its 16 bytes but 6 and 7
@@ -117,7 +117,7 @@ exact-shifts k s i = cc (half-further s i (i + 2 * k) (0 + 2 * k) (omega arith),
 
 inexact-shifts : Shifts inexactAt
 unfolding inexactAt
-inexact-shifts s i = noes-same (exactAt s i) (exactAt (drop i s) 0) 16 (λ k _. exact-shifts k s i)
+inexact-shifts s i = noes-same (exactAt s i) (exactAt (drop i s) 0) _ (λ k _. exact-shifts k s i)
 
 -- so it is for each of them
 pub shifts : Shifts byteAt × Shifts halfAt × Shifts wordAt
@@ -147,30 +147,30 @@ module _ (s : List ℕ) (i : ℕ) where
   exact-at h k =
       exact-digits (signedAt s (i + 2 * k)) (halfAt s (i + 32 + 2 * k)) (half-fits (halfAt s (i + 2 * k)) (omega (arith, h (i + 2 * k), h (i + 2 * k + 1)))) (omega (arith, h (i + 32 + 2 * k), h (i + 32 + 2 * k + 1)))
 
-  -- at most sixteen
-  pub inexact-most : inexactAt s i ≤ 16
-  unfolding inexactAt
-  inexact-most = noes-most (exactAt s i) 16
-
   -- 0 IS TOLD exactly where each of the sixteen equals its fraction
   pub inexact-none : (inexactAt s i ≡ 0) ↔ ((k : ℕ) → k < 16 → IsFraction k)
   unfolding inexactAt
   inexact-none = (
-    λ e k h. exact-is k .0 (noes-none (exactAt s i) 16 .0 e k h),
-    λ f. noes-none (exactAt s i) 16 .1 (λ k h. exact-is k .1 (f k h)),
+    λ e k h. exact-is k .0 (noes-none (exactAt s i) _ .0 e k h),
+    λ f. noes-none (exactAt s i) _ .1 (λ k h. exact-is k .1 (f k h)),
   )
 
   -- 16 IS TOLD exactly where none does
   pub inexact-all : (inexactAt s i ≡ 16) ↔ ((k : ℕ) → k < 16 → IsFraction k → ⊥)
   unfolding inexactAt
   inexact-all = (
-    λ e k h v. false≢true (sym (noes-all (exactAt s i) 16 .0 e k h) ∙ exact-is k .1 v),
-    λ f. noes-all (exactAt s i) 16 .1 (λ k h. never (exactAt s i k) (λ e. f k h (exact-is k .0 e))),
+    λ e k h v. false≢true (sym (noes-all (exactAt s i) _ .0 e k h) ∙ exact-is k .1 v),
+    λ f. noes-all (exactAt s i) _ .1 (λ k h. never (exactAt s i k) (λ e. f k h (exact-is k .0 e))),
   )
     where
       never : (b : Bool) → (b ≡ true → ⊥) → b ≡ false
       never true n = absurd (n refl)
       never false n = refl
+
+  -- at most sixteen
+  pub inexact-most : inexactAt s i ≤ 16
+  unfolding inexactAt
+  inexact-most = noes-most (exactAt s i) 16
 
 -- ---- lengths
 

@@ -28,11 +28,11 @@ module _ (b : ℕ → Bool) where
   pub noes-most : (n : ℕ) → noes b n ≤ n
   unfolding noes pick
   noes-most zero = omega arith
-  noes-most (suc n) = go (b n) (noes-most n)
+  noes-most (suc n) = go (b n) refl (noes-most n)
     where
-      go : (t : Bool) → noes b n ≤ n → noes b n + pick t 0 1 ≤ suc n
-      go true h = omega arith
-      go false h = omega arith
+      go : (t : Bool) → b n ≡ t → noes b n ≤ n → noes b (suc n) ≤ suc n
+      go true q h = rw q (omega arith)
+      go false q h = rw q (omega arith)
 
   -- NONE exactly where each mark says yes
   pub noes-none : (n : ℕ) → (noes b n ≡ 0) ↔ ((k : ℕ) → k < n → b k ≡ true)
@@ -43,9 +43,9 @@ module _ (b : ℕ → Bool) where
     λ f. rw (f n (omega arith), noes-none n .1 (λ k h. f k (omega arith))),
   )
     where
-      go : (t : Bool) → b n ≡ t → noes b n + pick t 0 1 ≡ 0 → (noes b n ≡ 0 → (k : ℕ) → k < n → b k ≡ true) → (k : ℕ) → k < suc n → b k ≡ true
-      go true q e f = upto (λ (k : ℕ). b k ≡ true) n (f (omega arith)) q
-      go false q e f = absurd (omega arith)
+      go : (t : Bool) → b n ≡ t → noes b (suc n) ≡ 0 → (noes b n ≡ 0 → (k : ℕ) → k < n → b k ≡ true) → (k : ℕ) → k < suc n → b k ≡ true
+      go true q e f = upto (λ (k : ℕ). b k ≡ true) n (f (omega (arith, rw q at e))) q
+      go false q e f = absurd (omega (arith, rw q at e))
 
   -- ALL exactly where each says no
   pub noes-all : (n : ℕ) → (noes b n ≡ n) ↔ ((k : ℕ) → k < n → b k ≡ false)
@@ -56,9 +56,9 @@ module _ (b : ℕ → Bool) where
     λ f. rw (f n (omega arith), noes-all n .1 (λ k h. f k (omega arith))) (omega arith),
   )
     where
-      go : (t : Bool) → b n ≡ t → noes b n + pick t 0 1 ≡ suc n → (noes b n ≡ n → (k : ℕ) → k < n → b k ≡ false) → (k : ℕ) → k < suc n → b k ≡ false
-      go true q e f = absurd (omega (arith, noes-most n))
-      go false q e f = upto (λ (k : ℕ). b k ≡ false) n (f (omega arith)) q
+      go : (t : Bool) → b n ≡ t → noes b (suc n) ≡ suc n → (noes b n ≡ n → (k : ℕ) → k < n → b k ≡ false) → (k : ℕ) → k < suc n → b k ≡ false
+      go true q e f = absurd (omega (arith, noes-most n, rw q at e))
+      go false q e f = upto (λ (k : ℕ). b k ≡ false) n (f (omega (arith, rw q at e))) q
 
   -- four from k on, as a row counts them
   pub noes-four : (k w x y z : ℕ) → w ≡ pick (b k) 0 1 → x ≡ pick (b (k + 1)) 0 1 → y ≡ pick (b (k + 2)) 0 1 → z ≡ pick (b (k + 3)) 0 1 → w + x + y + z ≡ noes (λ j. b (k + j)) 4

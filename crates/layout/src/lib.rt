@@ -76,11 +76,7 @@ pub fn matrix(s: &[u8], at: usize) -> [[f32; 4]; 4]
 fn lost(e: Entry) -> u32
     ensures { λ r. ⌜ (r ≡ pick (e .exact) 0 1) × (r ≤ 1) ⌝ }
 {
-    if e.exact {
-        0
-    } else {
-        1
-    }
+    !e.exact as u32
 }
 
 // How many of the entries `k` to `k + 3` are not exact.
