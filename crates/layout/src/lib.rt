@@ -97,10 +97,7 @@ pub fn inexact(s: &[u8], at: usize) -> u32
     requires { ⌜ at + 64 ≤ length (now s) ⌝ }
     ensures { λ r. ⌜ r ≡ inexactAt (now (s .entry)) at ⌝ }
 {
-    row_inexact(s, at, 0)
-        + row_inexact(s, at, 4)
-        + row_inexact(s, at, 8)
-        + row_inexact(s, at, 12)
+    row_inexact(s, at, 0) + row_inexact(s, at, 4) + row_inexact(s, at, 8) + row_inexact(s, at, 12)
 }
 
 // A half read with its sign, as a float.

@@ -67,10 +67,10 @@ returns c =
     let r = c .before .lost3 .ensures in
     let t = c .lost4 .ensures in (
       noes-four (exactAt (now (g .s)) (g .at)) (g .k) _ _ _ _
-      (mark _ _ _ (p .0) (i .before .before .before .entry .ensures))
-      (mark _ _ _ (q .0) (i .before .before .entry2 .ensures))
-      (mark _ _ _ (r .0) (i .before .entry3 .ensures))
-      (mark _ _ _ (t .0) (i .entry4 .ensures)),
+          (mark _ _ _ (p .0) (i .before .before .before .entry .ensures))
+          (mark _ _ _ (q .0) (i .before .before .entry2 .ensures))
+          (mark _ _ _ (r .0) (i .before .entry3 .ensures))
+          (mark _ _ _ (t .0) (i .entry4 .ensures)),
       omega (arith, p .1, q .1, r .1, t .1),
     )
 
