@@ -16,6 +16,7 @@ use Rattle.mode.specs.Word.{joined}
 use Rattle.decide.specs.Family.{familyOf}
 use Rattle.decide.specs.Lights.{lightNumber}
 use Rattle.stage.specs.declared.State.{State}
+pub use Rattle.stage.specs.Plan.{Answers}
 use Rattle.stage.specs.Plan.{Outcome, carry, matrixArea, viewportArea, indexArea, rowTable, tableIn, nothing}
 use Rattle.stage.specs.Sound.{limit}
 use Rattle.stage.specs.Opening.{zeros, blank, openingPlan, areas12}
@@ -43,10 +44,7 @@ matrixBytes =
 abbrev pub viewportBytes : List ℕ
 viewportBytes = 0x02 ∷ 0x80 ∷ 0x01 ∷ 0xE0 ∷ 0x01 ∷ 0xFF ∷ replicate 10 0
 
--- what a command comes to has this number and these values; it is done, and tells nothing; it is done, and tells n
-abbrev pub Answers : {A : Type 0} → Outcome A → ℕ → List ℕ → Type 0
-Answers o n vs = (o .number ≡ n) × (o .values ≡ vs)
-
+-- what a command comes to is done, and tells nothing; it is done, and tells n
 abbrev pub Done : {A : Type 0} → Outcome A → Type 0
 Done o = Answers o 0 []
 

@@ -1,13 +1,10 @@
 -- The first slot that is not outside a plane, slot by slot. Assumes nothing.
 use mathlib.Core.Path.{_≡_, refl, sym, _∙_}
 use Prim.Native.Nat.{ℕ, suc, _+_, _-_, _≤_, _<_}
-use native.Mathlib.Nat.{zero-div}
 use native.Mathlib.Omega.{arith}
-use mathlib.Core.Bool.{Bool, true, false}
+use mathlib.Core.Bool.{true, false}
 use mathlib.Core.List.{List, [], _∷_}
-use lib.ListN.{length, getD, List·getD-eq-default}
-use lib.Dec.{ltb}
-use borrow.Author.Tests.{ltb-true, ltb-false}
+use lib.ListN.{getD}
 use Rattle.numbers.specs.Choice.{pick}
 use Rattle.decide.specs.Family.{flag}
 use Rattle.reason.specs.Reason.{slotsTo, codesAt, firstInside}
@@ -19,10 +16,6 @@ slots-next i last h =
 
 pub slots-none : (i last : ℕ) → last < i → slotsTo i last ≡ []
 slots-none i last h = let e : last + 1 - i ≡ 0 = omega arith in rw e
-
--- 0 has no bit
-no-bit : (v : ℕ) → flag v 0 ≡ false
-no-bit v = rw (zero-div v)
 
 -- what is left of the search at slot i
 unfoldable pub ahead : ℕ → List ℕ → ℕ → ℕ → ℕ
@@ -44,11 +37,3 @@ module _ (v : ℕ) (code : List ℕ) (first last i : ℕ) (w : ahead v code last
   pub walk-ends : last < i → i ≡ firstInside v first (codesAt code (slotsTo first last))
   unfolding ahead
   walk-ends h = sym (w ∙ rw (slots-none i last h))
-
-  -- slot i is beyond the codes
-  pub walk-beyond : length code ≤ i → i ≡ firstInside v first (codesAt code (slotsTo first last))
-  walk-beyond h = go (ltb last i) refl
-    where
-      go : (b : Bool) → ltb last i ≡ b → i ≡ firstInside v first (codesAt code (slotsTo first last))
-      go true e = walk-ends (ltb-true last i e)
-      go false e = walk-stops (ltb-false last i e) (rw (List·getD-eq-default code 0 h) (no-bit v))

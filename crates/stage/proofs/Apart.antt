@@ -4,7 +4,7 @@ use Prim.Native.Nat.{ℕ}
 use mathlib.Core.List.{List, [], _∷_}
 use Rattle.stage.specs.declared.Answered.{Answered}
 use Rattle.stage.specs.declared.Answer.{Answer}
-use Rattle.stage.specs.declared.Answer.the-variants.{Done, Told, BadLoad, BadCull, NotLoaded, NoCode, BadModify, NeverLoaded, ShortData, ShortArea, NoRoom, BadState}
+use Rattle.stage.specs.declared.Answer.the-variants.{Done, Told, AllOutside, FirstInside, BadLoad, BadCull, NotLoaded, NoCode, BadModify, NeverLoaded, ShortData, ShortArea, NoRoom, BadState}
 use lib.ListN.{getD}
 use Rattle.stage.specs.Answers.{number, values}
 use Rattle.stage.specs.Plan.{Outcome, outcome}
@@ -12,7 +12,9 @@ use Rattle.stage.specs.Plan.{Outcome, outcome}
 -- the answer with these values, for each number
 zero : List ℕ → Answer
 zero [] = Done
-zero (n ∷ vs) = Told n
+zero (n ∷ []) = Told n
+zero (n ∷ p ∷ []) = AllOutside p
+zero (n ∷ l ∷ r ∷ vs) = FirstInside l r (getD vs 0 0) (getD vs 1 0)
 
 one : (ℕ → Answer) → List ℕ → Answer
 one f vs = f (getD vs 0 0)
@@ -32,6 +34,8 @@ answer-is : (a : Answer) → answer (number a) (values a) ≡ a
 unfolding answer zero one two
 answer-is Done = refl
 answer-is (Told n) = refl
+answer-is (AllOutside p) = refl
+answer-is (FirstInside l r m t) = refl
 answer-is (BadLoad m n) = refl
 answer-is (BadCull m n) = refl
 answer-is (NotLoaded n) = refl

@@ -9,6 +9,7 @@ use lib.Dec.{eqb, leb, ltb}
 use lib.ListN.{getD}
 use borrow.Author.Tests.{ltb-true}
 use Rattle.triangle.specs.Slot.{bit}
+use Rattle.reason.proofs.Walking.{slots-next, slots-none}
 use Rattle.stage.specs.declared.State.{State}
 use Rattle.stage.specs.declared.Answer.{Answer}
 use Rattle.stage.specs.declared.Answer.the-variants.{Told, NotLoaded, NoCode}
@@ -19,14 +20,6 @@ use Rattle.stage.specs.Draw.{slotsTo, judgeCodes, codesOf, anded, culled
 pub told : (s : State) (v w : ℕ) → v ≡ w → outcome (record { state = s; answer = Told v }) tt ≡ carry nothing (does (w ∷ []) s untouched) s tt
 unfolding carry
 told s v w e = rw e
-
-slots-next : (i last : ℕ) → i ≤ last → slotsTo i last ≡ i ∷ slotsTo (i + 1) last
-slots-next i last h =
-    let e : last + 1 - i ≡ suc (last + 1 - (i + 1)) = omega arith in
-    rw e
-
-slots-none : (i last : ℕ) → last < i → slotsTo i last ≡ []
-slots-none i last h = let e : last + 1 - i ≡ 0 = omega arith in rw e
 
 -- the refusal of a slot that does not have both marks
 stopped : (s : State) (i : ℕ) (l c : Bool) (p : Plan) → l && c ≡ false

@@ -25,7 +25,7 @@ use Rattle.stage.proofs.Telling.{telling-unless, telling-judge}
 
 -- the tags of every answer but Done
 abbrev pub others : List ℕ
-others = 1 ∷ 2 ∷ 3 ∷ 4 ∷ 5 ∷ 6 ∷ 7 ∷ 8 ∷ 9 ∷ 10 ∷ 11 ∷ []
+others = 1 ∷ 2 ∷ 3 ∷ 4 ∷ 5 ∷ 6 ∷ 7 ∷ 8 ∷ 9 ∷ 10 ∷ 11 ∷ 12 ∷ 13 ∷ []
 
 -- the first tests of a command that reads need bytes from place at on, and is lent table k, of n entries of w numbers in the area l; then p
 abbrev pub tested : State → ℕ → ℕ → ℕ → ℕ → ℕ → List ℕ → List Float → Plan → Plan
@@ -51,9 +51,9 @@ module _ (s : State) (k w n need at : ℕ) (bytes : List ℕ) (l : List Float) (
 
   clears : (b₁ b₂ b₃ : Bool) → stateSound s ≡ b₁ → leb (at + need) (length bytes) ≡ b₂ → leb (n + 0) m ≡ b₃ → tagOf the-type (answered b₁ b₂ b₃) ≡ 0 → Clear s w n need at bytes l
   unfolding pick
-  clears false b₂ b₃ e₁ e₂ e₃ o = absurd (let z : _≡_ {A = ℕ} 11 0 = o in omega arith)
-  clears true false b₃ e₁ e₂ e₃ o = absurd (let z : _≡_ {A = ℕ} 8 0 = o in omega arith)
-  clears true true false e₁ e₂ e₃ o = absurd (let z : _≡_ {A = ℕ} 9 0 = o in omega arith)
+  clears false b₂ b₃ e₁ e₂ e₃ o = absurd (let z : _≡_ {A = ℕ} 13 0 = o in omega arith)
+  clears true false b₃ e₁ e₂ e₃ o = absurd (let z : _≡_ {A = ℕ} 10 0 = o in omega arith)
+  clears true true false e₁ e₂ e₃ o = absurd (let z : _≡_ {A = ℕ} 11 0 = o in omega arith)
   clears true true true e₁ e₂ e₃ o =
       record {
         sound = e₁;
@@ -90,7 +90,7 @@ pub passed-on : (s : State) (k w n need at : ℕ) (bytes : List ℕ) (l : List F
 passed-on s k w n need at bytes l c f p o h = passed f s l _ _ _ _ o (c .sound) (passed f s l _ _ _ _ o (c .reach) (passed f s l _ _ _ _ o (c .holds) h))
 
 -- a number told with such a plan is told with what follows the first tests
-pub telling-tested : (x : ℕ) (s : State) (k w n need at : ℕ) (bytes : List ℕ) (l : List Float) (p : Plan) → telling x (tested s k w n need at bytes l p) ≡ tested s k w n need at bytes l (telling x p)
+pub telling-tested : (x : List ℕ) (s : State) (k w n need at : ℕ) (bytes : List ℕ) (l : List Float) (p : Plan) → telling x (tested s k w n need at bytes l p) ≡ tested s k w n need at bytes l (telling x p)
 telling-tested x s k w n need at bytes l p =
     let b = leb (at + need) (length bytes) in
     telling-unless x (stateSound s) 10 [] _

@@ -6,6 +6,7 @@ pub mod Combining
 pub mod Culling
 pub mod Drawing
 pub mod Early
+pub mod Explaining
 pub mod Filling
 pub mod Inking
 pub mod Judged

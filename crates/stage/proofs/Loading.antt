@@ -222,10 +222,10 @@ pub record Sized (s : State) (l : LoadAreas) (first count at : ℕ) (bytes : Lis
 
 -- the tags of every answer but Done, and of every answer but Told
 abbrev pub undone : List ℕ
-undone = 1 ∷ 2 ∷ 3 ∷ 4 ∷ 5 ∷ 6 ∷ 7 ∷ 8 ∷ 9 ∷ 10 ∷ 11 ∷ []
+undone = 1 ∷ 2 ∷ 3 ∷ 4 ∷ 5 ∷ 6 ∷ 7 ∷ 8 ∷ 9 ∷ 10 ∷ 11 ∷ 12 ∷ 13 ∷ []
 
 abbrev pub untold : List ℕ
-untold = 0 ∷ 2 ∷ 3 ∷ 4 ∷ 5 ∷ 6 ∷ 7 ∷ 8 ∷ 9 ∷ 10 ∷ 11 ∷ []
+untold = 0 ∷ 2 ∷ 3 ∷ 4 ∷ 5 ∷ 6 ∷ 7 ∷ 8 ∷ 9 ∷ 10 ∷ 11 ∷ 12 ∷ 13 ∷ []
 
 -- ---- the load's ways out, each by the tests that lead there
 module _ (s : State) (l : LoadAreas) (first count at : ℕ) (bytes : List ℕ) where
@@ -401,10 +401,10 @@ module _ (s : State) (first count len at : ℕ) (r : Rooms) where
 
   early-done : (b₁ b₂ b₃ b₄ : Bool) → tagOf the-type (early-by b₁ b₂ b₃ b₄) ≡ 0 → number (early-by b₁ b₂ b₃ b₄) ≡ 0
   unfolding pick
-  early-done false b₂ b₃ b₄ o = absurd (let z : _≡_ {A = ℕ} 11 0 = o in omega arith)
-  early-done true false b₃ b₄ o = absurd (let z : _≡_ {A = ℕ} 2 0 = o in omega arith)
-  early-done true true false b₄ o = absurd (let z : _≡_ {A = ℕ} 8 0 = o in omega arith)
-  early-done true true true false o = absurd (let z : _≡_ {A = ℕ} 9 0 = o in omega arith)
+  early-done false b₂ b₃ b₄ o = absurd (let z : _≡_ {A = ℕ} 13 0 = o in omega arith)
+  early-done true false b₃ b₄ o = absurd (let z : _≡_ {A = ℕ} 4 0 = o in omega arith)
+  early-done true true false b₄ o = absurd (let z : _≡_ {A = ℕ} 10 0 = o in omega arith)
+  early-done true true true false o = absurd (let z : _≡_ {A = ℕ} 11 0 = o in omega arith)
   early-done true true true true o = refl
 
   early-sound : (b₁ b₂ b₃ b₄ : Bool) → stateSound s ≡ b₁ → number (early-by b₁ b₂ b₃ b₄) ≡ 0 → stateSound s ≡ true
@@ -434,7 +434,7 @@ module _ (s : State) (d : Settled) (count : ℕ) (r : Rooms) where
 
   late-told : (b : Bool) (n m : ℕ) → tagOf the-type (pick b (Told n) (NoRoom m)) ≡ 1 → number (pick b (Told n) (NoRoom m)) ≡ 0
   unfolding pick
-  late-told false n m o = absurd (let z : _≡_ {A = ℕ} 10 1 = o in omega arith)
+  late-told false n m o = absurd (let z : _≡_ {A = ℕ} 12 1 = o in omega arith)
   late-told true n m o = refl
 
   late-full : (b : Bool) (n m : ℕ) → eqb m 0 ≡ b → number (pick b (Told n) (NoRoom m)) ≡ 0 → m ≡ 0

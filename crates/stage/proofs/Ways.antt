@@ -72,7 +72,7 @@ silent q d = (ap number d, ap values d)
 
 module _ (s : State) (l : List Float) (at : ℕ) (bytes : List ℕ) (n : ℕ) (u : State) (v : List Float) where
   abbrev reading : Plan
-  reading = telling n (tested s 1 matrixWidth (s .counts .matrices) 64 at bytes l (combine u (tableIn matrixArea (s .counts) l) v))
+  reading = telling (n ∷ []) (tested s 1 matrixWidth (s .counts .matrices) 64 at bytes l (combine u (tableIn matrixArea (s .counts) l) v))
 
   abbrev Reads : State → Answer → List Float → Type 0
   Reads t q a = outcome (record { state = t; answer = q }) a ≡ carry area1 reading s l
@@ -81,8 +81,8 @@ module _ (s : State) (l : List Float) (at : ℕ) (bytes : List ℕ) (n : ℕ) (u
   told : tested s 1 matrixWidth (s .counts .matrices) 64 at bytes l (appending 1 (tableIn matrixArea (s .counts) l) v (λ e. does (n ∷ []) (withCombined u v true) (edits1 e))) ≡ reading
   unfolding combine telling
   told =
-      ap (tested s 1 matrixWidth (s .counts .matrices) 64 at bytes l) (sym (telling-appending n 1 (tableIn matrixArea (s .counts) l) v (λ e. does [] (withCombined u v true) (edits1 e))))
-      ∙ sym (telling-tested n s 1 matrixWidth (s .counts .matrices) 64 at bytes l (appending 1 (tableIn matrixArea (s .counts) l) v (λ e. does [] (withCombined u v true) (edits1 e))))
+      ap (tested s 1 matrixWidth (s .counts .matrices) 64 at bytes l) (sym (telling-appending (n ∷ []) 1 (tableIn matrixArea (s .counts) l) v (λ e. does [] (withCombined u v true) (edits1 e))))
+      ∙ sym (telling-tested (n ∷ []) s 1 matrixWidth (s .counts .matrices) 64 at bytes l (appending 1 (tableIn matrixArea (s .counts) l) v (λ e. does [] (withCombined u v true) (edits1 e))))
 
   told-as : (o : Outcome (List Float))
       → o ≡ carry area1 (tested s 1 matrixWidth (s .counts .matrices) 64 at bytes l (appending 1 (tableIn matrixArea (s .counts) l) v (λ e. does (n ∷ []) (withCombined u v true) (edits1 e)))) s l → o ≡ carry area1 reading s l

@@ -2,12 +2,14 @@
 use Prim.Native.Nat.{ℕ}
 use mathlib.Core.List.{List, [], _∷_}
 use Rattle.stage.specs.declared.Answer.{Answer}
-use Rattle.stage.specs.declared.Answer.the-variants.{Done, Told, BadLoad, BadCull, NotLoaded, NoCode, BadModify, NeverLoaded, ShortData, ShortArea, NoRoom, BadState}
+use Rattle.stage.specs.declared.Answer.the-variants.{Done, Told, AllOutside, FirstInside, BadLoad, BadCull, NotLoaded, NoCode, BadModify, NeverLoaded, ShortData, ShortArea, NoRoom, BadState}
 
 -- 0 is done
 abbrev pub number : Answer → ℕ
 number Done = 0
 number (Told n) = 0
+number (AllOutside plane) = 0
+number (FirstInside left right bottom top) = 0
 number (BadLoad count first) = 1
 number (BadCull first last) = 2
 number (NotLoaded slot) = 3
@@ -23,6 +25,8 @@ number BadState = 10
 abbrev pub values : Answer → List ℕ
 values Done = []
 values (Told n) = n ∷ []
+values (AllOutside plane) = 1 ∷ plane ∷ []
+values (FirstInside left right bottom top) = 0 ∷ left ∷ right ∷ bottom ∷ top ∷ []
 values (BadLoad count first) = count ∷ first ∷ []
 values (BadCull first last) = first ∷ last ∷ []
 values (NotLoaded slot) = slot ∷ []

@@ -1,34 +1,26 @@
--- The meaning of the cull test, the depth test and draw (REFERENCE 13, 14). The number of slots is a parameter. Definitions only.
-use Prim.Native.Nat.{ℕ, zero, suc, _+_, _-_}
-use mathlib.Core.Bool.{Bool, true, false, not, _&&_}
+-- The meaning of the cull test, its explainer, the depth test and draw (REFERENCE 13, 14). The number of slots is a parameter. Definitions only.
+use Prim.Native.Nat.{ℕ, _-_}
+use mathlib.Core.Bool.{Bool, true, false, _&&_}
 use mathlib.Core.List.{List, [], _∷_, map}
 use lib.ListN.{length, getD, set}
-use lib.Bits.{bitAnd}
-use lib.Dec.{eqb, leb, ltb}
+use lib.Dec.{leb, ltb}
 use lib.IntN.{pos}
 use lib.Ieee.{nan, le, binary64}
 use Rattle.decide.specs.Append.{final}
 use Rattle.decide.specs.declared.family.Family.{Family}
 use Rattle.decide.specs.Family.{familyOf}
 use Rattle.numbers.specs.Ratio.{ofRatio}
+pub use Rattle.reason.specs.Reason.{slotsFrom, slotsTo, codesAt, anded, culled}
+use Rattle.reason.specs.Reason.{reason}
 use Rattle.triangle.specs.Run.{settings, runOf, longer, closed, sameRun}
 use Rattle.triangle.specs.Slot.{bit, held, corners, both, culls, swaps}
 use Rattle.stage.specs.declared.State.{State}
 use Rattle.stage.specs.declared.Counts.{Counts}
-use Rattle.stage.specs.Plan.{Table, Edit, keep, grow, patch, Edits, Plan, refuse, does, unless, pick, lent, judge, untouched, indexArea, runArea, tableIn, afterIn, Outcome, carry}
+use Rattle.stage.specs.Plan.{Table, Edit, keep, grow, patch, Edits, Plan, refuse, does, unless, pick, lent, judge, telling, untouched, indexArea, runArea, tableIn, afterIn, Outcome, carry}
 use Rattle.stage.specs.Sound.{sound, limit}
 use Rattle.stage.specs.With.{withDrawn}
 
 -- ---- cull test
-
--- n slots in order, from slot i on
-abbrev pub slotsFrom : ℕ → ℕ → List ℕ
-slotsFrom i zero = []
-slotsFrom i (suc n) = i ∷ slotsFrom (i + 1) n
-
--- the slots first to last
-abbrev pub slotsTo : ℕ → ℕ → List ℕ
-slotsTo first last = slotsFrom first (last + 1 - first)
 
 -- the slots in turn: 3 where one is not loaded, 4 where it has no clip code
 abbrev pub judgeCodes : State → List ℕ → Plan → Plan
@@ -40,16 +32,7 @@ judgeCodes s (i ∷ is) p =
 
 -- the clip codes of some slots
 abbrev pub codesOf : State → List ℕ → List ℕ
-codesOf s is = map (λ (i : ℕ). getD (s .code) i 0) is
-
--- the AND of some codes with m
-abbrev pub anded : ℕ → List ℕ → ℕ
-anded m [] = m
-anded m (c ∷ cs) = anded (bitAnd m c) cs
-
--- the AND of all codes with 0x0f is not 0: all lie outside one of the four side planes
-abbrev pub culled : List ℕ → Bool
-culled cs = not (eqb (anded 0x0f cs) 0)
+codesOf s is = codesAt (s .code) is
 
 -- Cull: slots in order, first refusal wins; yes exactly if they are culled
 unfoldable pub cullPlan : ℕ → State → ℕ → ℕ → Plan
@@ -58,6 +41,10 @@ cullPlan slots s first last =
     (unless (leb first last && ltb last slots) (refuse 2 (first ∷ last ∷ []))
     (judgeCodes s (slotsTo first last)
     (does (bit (culled (codesOf s (slotsTo first last))) ∷ []) s untouched)))
+
+-- Explain cull: the cull test, with the reason told in place of yes or no; for a refusal what the test gives
+unfoldable pub explainPlan : ℕ → State → ℕ → ℕ → Plan
+explainPlan slots s first last = telling (reason first (codesOf s (slotsTo first last))) (cullPlan slots s first last)
 
 -- ---- depth test
 

@@ -1,5 +1,6 @@
 pub mod Answers
 pub mod Draw
+pub mod Explain
 pub mod Lights
 pub mod Load
 pub mod Matrices

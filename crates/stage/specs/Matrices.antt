@@ -67,7 +67,7 @@ matrixStores f s t flags bytes at =
 
 -- Matrix: it refuses and stores that, and tells how many of the sixteen entries that it read are not exact
 unfoldable pub matrixPlan : Family → State → Table (List Float) → ℕ → List ℕ → ℕ → Plan
-matrixPlan f s t flags bytes at = telling (inexactAt bytes at) (matrixStores f s t flags bytes at)
+matrixPlan f s t flags bytes at = telling (inexactAt bytes at ∷ []) (matrixStores f s t flags bytes at)
 
 -- what forced matrix refuses and stores: 64 bytes become the combined matrix
 unfoldable pub forceStores : State → Table (List Float) → List ℕ → ℕ → Plan
@@ -75,7 +75,7 @@ forceStores s t bytes at = sound s (needs 64 at bytes (judge 8 (lent 1 t keep �
 
 -- Forced matrix: it refuses and stores that, and tells as matrix does
 unfoldable pub forcePlan : State → Table (List Float) → List ℕ → ℕ → Plan
-forcePlan s t bytes at = telling (inexactAt bytes at) (forceStores s t bytes at)
+forcePlan s t bytes at = telling (inexactAt bytes at ∷ []) (forceStores s t bytes at)
 
 -- Pop: the depth lowered by count, never below 1; only a changed depth recomputes
 unfoldable pub popPlan : State → Table (List Float) → ℕ → Plan

@@ -1,5 +1,6 @@
 -- The vocabulary in which the meaning of each command is said: a plan, made of the state, of what is in use of the lent tables and of the
 -- arguments alone, and what the state, the answer and the areas are after it. Definitions only.
+use mathlib.Core.Path.{_≡_}
 use Prim.Native.Nat.{ℕ, _+_, min}
 use mathlib.Core.Bool.{Bool, true, false}
 use mathlib.Core.List.{List, [], _∷_, map}
@@ -145,10 +146,10 @@ appending k t e p = judge 9 (lent k t (appended t e) ∷ []) (p (appended t e))
 abbrev pub needs : ℕ → ℕ → List ℕ → Plan → Plan
 needs n at bytes p = unless (leb (at + n) (length bytes)) (refuse 7 (n ∷ [])) p
 
--- the plan p with the number n told: where p is done, n is what it tells; where p refuses, nothing is added
-unfoldable pub telling : ℕ → Plan → Plan
-telling n (refuse m vs) = refuse m vs
-telling n (does vs t e) = does (n ∷ []) t e
+-- the plan p with vs told: where p is done, vs is what it tells; where p refuses, nothing is added
+unfoldable pub telling : List ℕ → Plan → Plan
+telling vs (refuse n ws) = refuse n ws
+telling vs (does ws t e) = does vs t e
 
 -- ---- outcomes
 
@@ -173,6 +174,10 @@ pub record Outcome (A : Type 0) : Type 0 where
   pub number : ℕ
   pub values : List ℕ
   pub areas : A
+
+-- the answer of an outcome: number n, with the values vs
+abbrev pub Answers : {A : Type 0} → Outcome A → ℕ → List ℕ → Type 0
+Answers o n vs = (o .number ≡ n) × (o .values ≡ vs)
 
 abbrev pub outcome : {A : Type 0} → Answered → A → Outcome A
 outcome r l = record { state = r .state; number = number (r .answer); values = values (r .answer); areas = l }

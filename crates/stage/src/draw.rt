@@ -1,15 +1,18 @@
-// The cull test, the depth test and draw.
+// The cull test, its explainer, the depth test and draw.
 ghost use mathlib.Core.Path.{_≡_};
 ghost use mathlib.Core.List.{[], _∷_};
+ghost use Rattle.reason.specs.Reason.{told};
+ghost use Rattle.stage.specs.Answers.{number, values};
 ghost use Rattle.stage.specs.Plan.{outcome, carry, nothing, pick};
 ghost use Rattle.stage.specs.Sound.{limit};
 ghost use Rattle.stage.specs.declared.Answer.the-variants.{NotLoaded, NoCode};
-ghost use Rattle.stage.specs.Draw.{cullPlan, depthPlan, drawMeans};
+ghost use Rattle.stage.specs.Draw.{cullPlan, explainPlan, depthPlan, drawMeans};
 ghost use Rattle.stage.specs.Steps.{drawAnswer, cornersAt};
 use crate::Answer;
 use crate::Answered;
 use crate::State;
 use areas::widths::RUN_WIDTH;
+use reason::Reason;
 use triangle::run;
 use triangle::slot;
 use triangle::slot::Corner;
@@ -24,6 +27,16 @@ fn uncoded(loaded: bool, slot: u32) -> Answer
         Answer::NoCode(slot)
     } else {
         Answer::NotLoaded(slot)
+    }
+}
+
+// The reason of the cull test's answer, as an answer.
+fn answer_for(r: Reason) -> Answer
+    ensures { λ a. ⌜ (number a ≡ 0) × (values a ≡ told r) ⌝ }
+{
+    match r {
+        Reason::AllOutside(plane) => Answer::AllOutside(plane),
+        Reason::FirstInside(left, right, bottom, top) => Answer::FirstInside(left, right, bottom, top),
     }
 }
 
@@ -100,6 +113,30 @@ impl State {
         ensures { λ r. ⌜ outcome r tt ≡ carry nothing (cullPlan (limit self) self first last) self tt ⌝ }
     {
         let answer = self.culled(first, last);
+        Answered {
+            state: self,
+            answer: answer,
+        }
+    }
+
+    // What the explainer answers; the state stays. A refusal is the test's.
+    fn explained(self, first: u32, last: u32) -> Answer
+        ensures { λ r. ⌜ outcome (record { state = self; answer = r }) tt ≡ carry nothing (explainPlan (limit self) self first last) self tt ⌝ }
+    {
+        let answer = self.culled(first, last);
+        if let Answer::Told(_) = answer {
+            let code = self.code;
+            return answer_for(reason::reason_of(&code, first, last));
+        }
+        answer
+    }
+
+    // Explain cull (13): for yes the lowest side plane that every slot lies outside; for no, for each side plane, the first slot that
+    // is not outside it; for a refusal what the cull test gives.
+    pub fn explain_cull(mut self, first: u32, last: u32) -> Answered
+        ensures { λ r. ⌜ outcome r tt ≡ carry nothing (explainPlan (limit self) self first last) self tt ⌝ }
+    {
+        let answer = self.explained(first, last);
         Answered {
             state: self,
             answer: answer,

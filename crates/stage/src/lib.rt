@@ -85,11 +85,16 @@ pub struct State {
     pub unit: u32,
 }
 
-// What a command answers (3). `Done` and `Told` are number 0; the refusals stand in the order of their numbers, 1 to 10.
+// What a command answers (3). `Done`, `Told` and the explainer's two are number 0; the refusals stand in the order of their
+// numbers, 1 to 10.
 pub enum Answer {
     Done,
     // The notice of a load, 1 for yes and 0 for no, or a count.
     Told(u32),
+    // Culled: every slot lies outside this side plane, 0 to 3, the lowest such.
+    AllOutside(u32),
+    // Not culled: for each side plane, 0 to 3, the first slot that is not outside it.
+    FirstInside(u32, u32, u32, u32),
     BadLoad(u32, u32),
     BadCull(u32, u32),
     NotLoaded(u32),

@@ -1,74 +1,81 @@
 -- `reason::reason_of` meets its contract. Assumes nothing.
-use borrow.Author.Needs.{needs}
 use Rattle.reason.proofs.Finding.{is-left, is-right, is-bottom, is-top, is-none}
 use Rattle.reason.proofs.reason_of.Statement.{statement}
 use Rattle.reason.proofs.reason_of.Tie as tie
 
+end-of-requires : tie.Need-end-of-requires
+end-of-requires c κs = tt
+
 first-inside-requires : tie.Need-first-inside-requires
-first-inside-requires c κs = search needs
+first-inside-requires c κs = c .end-of .ensures .1
 
 returns : tie.Need-returns
 returns c =
-    let a = c .before .before .before .args in
-    is-left (a .code .now) (a .first) (a .last) _ (c .before .first-inside .ensures) (c .if1 .taken)
+    let n = c .before .before in
+    let a = n .before .args in
+    rw (← n .end-of .ensures .0)
+    (is-left (a .code .now) (a .first) (n .end-of .result) _ (c .before .first-inside .ensures) (c .if1 .taken))
 
 first-inside-requires-2 : tie.Need-first-inside-requires-2
-first-inside-requires-2 c κs = search needs
+first-inside-requires-2 c κs = c .before .before .end-of .ensures .1
 
 returns-2 : tie.Need-returns-2
 returns-2 c =
     let e1 = c .before .before in
-    let a = e1 .before .before .before .args in
-    is-right (a .code .now) (a .first) (a .last) _ (e1 .before .first-inside .ensures) (e1 .if1 .left) _ (c .before .first-inside2 .ensures) (c .if2 .taken)
+    let n = e1 .before .before in
+    let a = n .before .args in
+    rw (← n .end-of .ensures .0)
+    (is-right (a .code .now) (a .first) (n .end-of .result) _ (e1 .before .first-inside .ensures) (e1 .if1 .left)
+    _ (c .before .first-inside2 .ensures) (c .if2 .taken))
 
 first-inside-requires-3 : tie.Need-first-inside-requires-3
-first-inside-requires-3 c κs = search needs
+first-inside-requires-3 c κs = c .before .before .before .before .end-of .ensures .1
 
 returns-3 : tie.Need-returns-3
 returns-3 c =
     let e2 = c .before .before in
     let e1 = e2 .before .before in
-    let a = e1 .before .before .before .args in
-    is-bottom (a .code .now) (a .first) (a .last) _ (e1 .before .first-inside .ensures) (e1 .if1 .left) _ (e2 .before .first-inside2 .ensures) (e2 .if2 .left)
-    _ (c .before .first-inside3 .ensures) (c .if3 .taken)
+    let n = e1 .before .before in
+    let a = n .before .args in
+    rw (← n .end-of .ensures .0)
+    (is-bottom (a .code .now) (a .first) (n .end-of .result) _ (e1 .before .first-inside .ensures) (e1 .if1 .left)
+    _ (e2 .before .first-inside2 .ensures) (e2 .if2 .left)
+    _ (c .before .first-inside3 .ensures) (c .if3 .taken))
 
 first-inside-requires-4 : tie.Need-first-inside-requires-4
-first-inside-requires-4 c κs = search needs
+first-inside-requires-4 c κs = c .before .before .before .before .before .before .end-of .ensures .1
 
 returns-4 : tie.Need-returns-4
 returns-4 c =
     let e3 = c .before .before in
     let e2 = e3 .before .before in
     let e1 = e2 .before .before in
-    let a = e1 .before .before .before .args in
-    is-top (a .code .now) (a .first) (a .last) _ (e1 .before .first-inside .ensures) (e1 .if1 .left) _ (e2 .before .first-inside2 .ensures) (e2 .if2 .left)
-    _ (e3 .before .first-inside3 .ensures) (e3 .if3 .left) _ (c .before .first-inside4 .ensures) (c .if4 .taken)
-
-cast-t11 : tie.Need-cast-t11
-cast-t11 c = search needs
-
-cast-t12 : tie.Need-cast-t12
-cast-t12 c = search needs
-
-cast-t13 : tie.Need-cast-t13
-cast-t13 c = search needs
-
-cast-t14 : tie.Need-cast-t14
-cast-t14 c = search needs
+    let n = e1 .before .before in
+    let a = n .before .args in
+    rw (← n .end-of .ensures .0)
+    (is-top (a .code .now) (a .first) (n .end-of .result) _ (e1 .before .first-inside .ensures) (e1 .if1 .left)
+    _ (e2 .before .first-inside2 .ensures) (e2 .if2 .left)
+    _ (e3 .before .first-inside3 .ensures) (e3 .if3 .left)
+    _ (c .before .first-inside4 .ensures) (c .if4 .taken))
 
 returns-5 : tie.Need-returns-5
 returns-5 c =
     let e3 = c .before .before in
     let e2 = e3 .before .before in
     let e1 = e2 .before .before in
-    let a = e1 .before .before .before .args in
-    is-none (a .code .now) (a .first) (a .last) _ (e1 .before .first-inside .ensures) (e1 .if1 .left) _ (e2 .before .first-inside2 .ensures) (e2 .if2 .left)
-    _ (e3 .before .first-inside3 .ensures) (e3 .if3 .left) _ (c .before .first-inside4 .ensures) (c .if4 .left)
+    let n = e1 .before .before in
+    let a = n .before .args in
+    rw (← n .end-of .ensures .0)
+    (is-none (a .code .now) (a .first) (n .end-of .result) _ (e1 .before .first-inside .ensures) (e1 .if1 .left)
+    _ (e2 .before .first-inside2 .ensures) (e2 .if2 .left)
+    _ (e3 .before .first-inside3 .ensures) (e3 .if3 .left)
+    _ (c .before .first-inside4 .ensures) (c .if4 .left))
 
 pub reason-of-spec : {M : Type 1} → statement M
 reason-of-spec =
     tie.close
     (tie.spec
+    end-of-requires
     first-inside-requires
     returns
     first-inside-requires-2
@@ -77,8 +84,4 @@ reason-of-spec =
     returns-3
     first-inside-requires-4
     returns-4
-    cast-t11
-    cast-t12
-    cast-t13
-    cast-t14
     returns-5)
