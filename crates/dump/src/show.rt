@@ -1,4 +1,4 @@
-// Writes text to standard output.
+// Writes text to standard output, and complaints to standard error.
 ghost use mathlib.Core.Path.{_≡_};
 ghost use mathlib.Core.Bool.{false};
 ghost use mathlib.Core.List.{[], _∷_};
@@ -8,6 +8,7 @@ ghost use lib.Ieee.{binary32, binary64, toBits, ne};
 ghost use mir.Val.{ofZ};
 ghost use mir.Syntax.{w16};
 ghost use Rattle.stage.specs.Answers.{number, values};
+use libc::STDERR_FILENO;
 use libc::STDOUT_FILENO;
 use stage::Answer;
 use stage::Counts;
@@ -118,6 +119,8 @@ fn number_of(a: Answer) -> u32
     match a {
         Answer::Done => 0,
         Answer::Told(_) => 0,
+        Answer::AllOutside(_) => 0,
+        Answer::FirstInside(_, _, _, _) => 0,
         Answer::BadLoad(_, _) => 1,
         Answer::BadCull(_, _) => 2,
         Answer::NotLoaded(_) => 3,
@@ -134,46 +137,53 @@ fn number_of(a: Answer) -> u32
 // What is returned with the number: the first `count` of these.
 struct Values {
     count: u8,
-    first: u32,
-    second: u32,
+    list: [u32; 5],
+}
+
+fn none() -> Values
+    ensures { λ r. ⌜ take (r .count) (r .list) ≡ [] ⌝ }
+{
+    Values {
+        count: 0,
+        list: [0, 0, 0, 0, 0],
+    }
 }
 
 fn one(x: u32) -> Values
-    ensures { λ r. ⌜ take (r .count) (r .first ∷ r .second ∷ []) ≡ x ∷ [] ⌝ }
+    ensures { λ r. ⌜ take (r .count) (r .list) ≡ x ∷ [] ⌝ }
 {
     Values {
         count: 1,
-        first: x,
-        second: 0,
+        list: [x, 0, 0, 0, 0],
     }
 }
 
 fn two(x: u32, y: u32) -> Values
-    ensures { λ r. ⌜ take (r .count) (r .first ∷ r .second ∷ []) ≡ x ∷ y ∷ [] ⌝ }
+    ensures { λ r. ⌜ take (r .count) (r .list) ≡ x ∷ y ∷ [] ⌝ }
 {
     Values {
         count: 2,
-        first: x,
-        second: y,
+        list: [x, y, 0, 0, 0],
     }
 }
 
-fn none() -> Values
-    ensures { λ r. ⌜ take (r .count) (r .first ∷ r .second ∷ []) ≡ [] ⌝ }
+fn five(x: u32, y: u32, z: u32, t: u32, u: u32) -> Values
+    ensures { λ r. ⌜ take (r .count) (r .list) ≡ x ∷ y ∷ z ∷ t ∷ u ∷ [] ⌝ }
 {
     Values {
-        count: 0,
-        first: 0,
-        second: 0,
+        count: 5,
+        list: [x, y, z, t, u],
     }
 }
 
 fn values_of(a: Answer) -> Values
-    ensures { λ r. ⌜ take (r .count) (r .first ∷ r .second ∷ []) ≡ values a ⌝ }
+    ensures { λ r. ⌜ take (r .count) (r .list) ≡ values a ⌝ }
 {
     match a {
         Answer::Done => none(),
         Answer::Told(n) => one(n),
+        Answer::AllOutside(plane) => two(1, plane),
+        Answer::FirstInside(left, right, bottom, top) => five(0, left, right, bottom, top),
         Answer::BadLoad(count, first) => two(count, first),
         Answer::BadCull(first, last) => two(first, last),
         Answer::NotLoaded(slot) => one(slot),
@@ -188,11 +198,11 @@ fn values_of(a: Answer) -> Values
 }
 
 fn print_values(v: Values) {
-    if v.count > 0 {
-        word(v.first);
-    }
-    if v.count > 1 {
-        word(v.second);
+    let list = v.list;
+    for k in 0..5 {
+        if (k as u8) < v.count {
+            word(list[k]);
+        }
     }
 }
 
@@ -220,11 +230,11 @@ fn name(names: &[u8], n: u8) {
     }
 }
 
-// The name of an op: a command, of which there is no number 0, or an act of the driver.
+// The name of an op: a command, of which there is no number 0 and no 0x13, or an act of the driver.
 fn command(op: u8) {
     if op < ops::LEND {
         name(
-            b" none     open     matrix   force    pop      geom     viewport texture  fog      lightnum light    lookat   load     cull     depth    modify   draw     ucode    ink",
+            b" none     open     matrix   force    pop      geom     viewport texture  fog      lightnum light    lookat   load     cull     depth    modify   draw     ucode    ink      none     explain",
             op,
         );
     } else {
@@ -256,8 +266,30 @@ pub fn answered(i: usize, op: u8, a: Answer, c: Counts) {
     end();
 }
 
+// A sentence on standard error: why a trace is not replayed, or not to its end.
+pub fn complain(s: &[u8]) {
+    io::write_all(STDERR_FILENO, b"replay: ");
+    io::write_all(STDERR_FILENO, s);
+}
+
+// The end of such a sentence: a number, and what comes behind it.
+fn number_then(n: usize, s: &[u8]) {
+    io::print_decimal(STDERR_FILENO, n as u64);
+    io::write_all(STDERR_FILENO, s);
+}
+
 pub fn too_long(most: usize) {
-    text(b"replay: the trace is longer than ");
-    io::print_decimal(STDOUT_FILENO, most as u64);
-    text(b" bytes\n");
+    complain(b"the trace is longer than ");
+    number_then(most, b" bytes\n");
+}
+
+// The script stops at op number i, at the byte `at`, which is an op that is cut short, or none.
+pub fn stopped(i: usize, at: usize, known: bool) {
+    complain(b"op ");
+    number_then(i, b", at byte ");
+    if known {
+        number_then(at, b", is cut short; it and what follows was not replayed\n");
+    } else {
+        number_then(at, b", is unknown; it and what follows was not replayed\n");
+    }
 }

@@ -25,7 +25,7 @@ use Rattle.stage.specs.Opening.{blank, opened}
 use Rattle.stage.specs.Lights.{switched}
 use Rattle.stage.specs.Draw.{rowOf}
 use Rattle.stage.proofs.Judged.{and-left, and-right}
-use Rattle.sequence.specs.Sequence.{Command, matrix, force, pop, viewport, geometry, texture, fog, number, light, lookat, microcode, load, cull, depth, modify, draw, ink, Areas, Port, Book, Alike, book, plan, afterAll, result, step, run, isDone, accepted, opening}
+use Rattle.sequence.specs.Sequence.{Command, matrix, force, pop, viewport, geometry, texture, fog, number, light, lookat, microcode, load, cull, explain, depth, modify, draw, ink, Areas, Port, Book, Alike, book, plan, afterAll, result, step, run, isDone, accepted, opening}
 use Rattle.sequence.proofs.Turn.{enter, turn, course}
 use Rattle.sequence.proofs.Accepts.{Accepted, on-does, on-unless, on-judge}
 use Rattle.sequence.proofs.Held.{Fits, step-book, run-book}
@@ -93,6 +93,7 @@ module _ (F : ℕ → Family) (limit : State → ℕ) where
   act-longer (microcode to) h = same (h .triangles)
   act-longer (load first count bytes at) h = same (h .triangles)
   act-longer (cull first last) h = same (h .triangles)
+  act-longer (explain first last) h = same (h .triangles)
   act-longer (depth slot threshold) h = same (h .triangles)
   act-longer (modify slot attribute value) h = modified-longer (decoded attribute value)
     where

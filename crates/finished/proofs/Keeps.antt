@@ -27,9 +27,9 @@ use Rattle.stage.specs.Matrices.{edits1, edits2, turned, combine, viewportEntry
 use Rattle.stage.specs.Lights.{texturePlan, fogPlan, numberPlan, lightPlan, ambientPlan, slotPlan, lightIn, lookatPlan, axisIn, switched, microcodePlan}
 use Rattle.stage.specs.Draw.{edits89, mark, triangle, runEdit, rowOf}
 use Rattle.stage.proofs.Judged.{and-right}
-use Rattle.sequence.specs.Sequence.{Command, matrix, force, pop, viewport, geometry, texture, fog, number, light, lookat, microcode, load, cull, depth, modify, draw, ink, Book, loadOf, plan}
+use Rattle.sequence.specs.Sequence.{Command, matrix, force, pop, viewport, geometry, texture, fog, number, light, lookat, microcode, load, cull, explain, depth, modify, draw, ink, Book, loadOf, plan}
 use Rattle.sequence.proofs.Turn.{edit, enter}
-use Rattle.sequence.proofs.Accepts.{Accepted, Held, on-does, on-then, on-unless, on-pick, on-combine, on-matrix, on-force, on-pop, on-viewport, on-load, on-modify, on-cull, on-depth, on-ink, on-draw}
+use Rattle.sequence.proofs.Accepts.{Accepted, Held, on-does, on-then, on-unless, on-pick, on-combine, on-matrix, on-force, on-pop, on-viewport, on-load, on-modify, on-cull, on-explain, on-depth, on-ink, on-draw}
 use Rattle.finished.specs.Shown.{entriesOf, Triangle}
 use Rattle.finished.specs.Settings.{Settings, Space, withSpace, productOf, definedAs, deep, Lamps, withLamps, turnedTo, lampTo}
 use Rattle.finished.specs.Bench.{Bench, noCorner, moved, sets, combines, turns, pops, withTriangle, turnedAs, given, draws, act}
@@ -319,6 +319,7 @@ module _ (F : ℕ → Family) (limit : State → ℕ) (seats : ℕ) (few : seats
   keeps (microcode to) = keeps-microcode to
   keeps (load first count bytes at) = keeps-load first count bytes at
   keeps (cull first last) = on-cull (Keeps (cull first last)) slots (k .state) first last (λ _ _ _. rests (k .state) (settingsOf (k .state)) refl refl)
+  keeps (explain first last) = on-explain (Keeps (explain first last)) slots (k .state) first last (λ _ _ _. rests (k .state) (settingsOf (k .state)) refl refl)
   keeps (depth slot threshold) = on-depth (Keeps (depth slot threshold)) slots (k .state) slot threshold (λ _ _. rests (k .state) (settingsOf (k .state)) refl refl)
   keeps (modify slot attribute value) = keeps-modify slot attribute value
   keeps (draw a b c material mode colour prim) = keeps-draw a b c material mode colour prim

@@ -33,7 +33,7 @@ use Rattle.stage.specs.Plan.{pick}
 use Rattle.stage.specs.Opening.{zeros}
 use Rattle.stage.specs.Matrices.{viewportEntry}
 use Rattle.stage.specs.Lights.{microcodeNumber}
-use Rattle.sequence.specs.Sequence.{Command, matrix, force, pop, viewport, geometry, texture, fog, number, light, lookat, microcode, load, cull, depth, modify, draw, ink}
+use Rattle.sequence.specs.Sequence.{Command, matrix, force, pop, viewport, geometry, texture, fog, number, light, lookat, microcode, load, cull, explain, depth, modify, draw, ink}
 use Rattle.finished.specs.Shown.{Corner, Triangle}
 use Rattle.finished.specs.Settings.{Settings, Space, settings0, withModes, withSpace, withLamps, withAxes, topOf, productOf, definedAs, deep, turnedTo, fogTo, textureTo, microcodeTo, numbered, lampTo, axisTo, regeared, lightsDue, lookatDue, loadedWith}
 
@@ -236,6 +236,7 @@ act F (microcode to) h =
     sets (withSpace (withModes (h .settings) (microcodeTo (h .settings) (microcodeNumber to))) (definedAs (h .settings .space) false)) h
 act F (load first count bytes at) h = loads (F (h .settings .modes .microcode)) first (verticesAt bytes at count) h
 act F (cull first last) h = h
+act F (explain first last) h = h
 act F (depth slot threshold) h = h
 act F (modify slot attribute value) h = modifies (decoded attribute value) slot h
 act F (draw a b c material mode colour prim) h = draws (F (h .settings .modes .microcode)) a b c (material ∷ mode ∷ colour ∷ prim ∷ []) h

@@ -15,7 +15,7 @@ use Rattle.stage.specs.Plan.{Edit, keep, grow, patch, appended, Row, Edits, Pla
 use Rattle.stage.specs.With.{withRow, withEver, withLoaded, withDrawn, withSlots, withLights, withCombined, withDefined, marked, withColumns}
 use Rattle.stage.specs.Matrices.{modelTop, edits1}
 use Rattle.stage.specs.Draw.{mark}
-use Rattle.sequence.specs.Sequence.{Command, matrix, force, pop, viewport, geometry, texture, fog, number, light, lookat, microcode, load, cull, depth, modify, draw, ink, Book, Machine}
+use Rattle.sequence.specs.Sequence.{Command, matrix, force, pop, viewport, geometry, texture, fog, number, light, lookat, microcode, load, cull, explain, depth, modify, draw, ink, Book, Machine}
 
 -- ---- one kind of command under another rule
 
@@ -53,6 +53,7 @@ named (lookat slot bytes at) = (0, [])
 named (microcode to) = (aMicrocode, [])
 named (load first count bytes at) = (aLoad, first ∷ [])
 named (cull first last) = (0, [])
+named (explain first last) = (0, [])
 named (depth slot threshold) = (0, [])
 named (modify slot attribute value) = (aModify, slot ∷ [])
 named (draw a b c material mode colour prim) = (aDraw, a ∷ b ∷ c ∷ [])

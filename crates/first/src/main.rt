@@ -31,12 +31,22 @@ fn two(what: &[u8], n: u32, m: u32) {
     one(b" ", m);
 }
 
+fn four(what: &[u8], n: u32, m: u32, k: u32, j: u32) {
+    io::write_all(STDOUT_FILENO, what);
+    io::print_decimal(STDOUT_FILENO, n as u64);
+    io::write_all(STDOUT_FILENO, b" ");
+    io::print_decimal(STDOUT_FILENO, m as u64);
+    two(b" ", k, j);
+}
+
 // What a command answered: done, a number that it tells, or a refusal by its number and its values.
 fn said(command: &[u8], a: Answer) {
     io::write_all(STDOUT_FILENO, command);
     match a {
         Answer::Done => line(b": done"),
         Answer::Told(n) => one(b": told ", n),
+        Answer::AllOutside(plane) => one(b": culled, all outside plane ", plane),
+        Answer::FirstInside(l, r, b, t) => four(b": not culled, first inside ", l, r, b, t),
         Answer::BadLoad(count, first) => two(b": refusal 1, ", count, first),
         Answer::BadCull(first, last) => two(b": refusal 2, ", first, last),
         Answer::NotLoaded(slot) => one(b": refusal 3, ", slot),
@@ -104,6 +114,10 @@ fn load(
 
 fn cull_test(s: State, first: u32, last: u32) -> State {
     heard(b"cull test", s.cull_display_list(first, last))
+}
+
+fn explain_cull(s: State, first: u32, last: u32) -> State {
+    heard(b"explain cull", s.explain_cull(first, last))
 }
 
 fn depth_test(s: State, slot: u32, threshold: u32) -> State {
@@ -203,6 +217,8 @@ fn main() {
         &mut words,
     );
     s = cull_test(s, 0, 2);
+    // Why: for each of the planes left, right, bottom and top the first slot that is not outside it.
+    s = explain_cull(s, 0, 2);
     s = depth_test(s, 0, 1022 * 65536);
     s = draw(s, 0, 1, 2, &mut indices, &mut runs);
     // Slot 1 was drawn, so its row is copied, and the triangle keeps the old one.

@@ -1,7 +1,7 @@
 -- Every command of the domain, and a list of them: the two sides agree. Assumes nothing.
 use mathlib.Core.Path.{_≡_, refl, sym, ap, ap₂, _∙_, subst}
 use Prim.Native.Nat.{ℕ}
-use mathlib.Core.Bool.{false, cond, false≢true}
+use mathlib.Core.Bool.{true, false, cond, false≢true}
 use mathlib.Core.List.{List, [], _∷_}
 use Rattle.mode.specs.Word.{geometryAfter}
 use Rattle.decide.specs.Stack.{relit}
@@ -9,15 +9,15 @@ use Rattle.decide.specs.Family.{f3dex2, familyOf}
 use Rattle.stage.specs.Sound.{limit}
 use Rattle.stage.specs.declared.State.{State}
 use Rattle.stage.specs.Plan.{Plan, refuse, does, Edits, carry}
-use Rattle.sequence.specs.Sequence.{Command, matrix, force, pop, viewport, geometry, texture, fog, number, light, lookat, microcode, load, cull, depth, modify, draw, ink, Port, Book, book, afterAll, result, step}
+use Rattle.sequence.specs.Sequence.{Command, matrix, force, pop, viewport, geometry, texture, fog, number, light, lookat, microcode, load, cull, explain, depth, modify, draw, ink, Port, Book, book, afterAll, result, step}
 use Rattle.sequence.proofs.Turn.{enter, turn, course}
 use Rattle.sequence.proofs.Held.{Fits, step-book}
 use Rattle.sequence.proofs.Accepts.{Accepted}
 use Rattle.original.specs.Drawing.{Result, Ok, Err}
 use Rattle.original.specs.Walk.{World, Went, execute}
 use Rattle.original.specs.Relation.{Offsets, Same}
-use Rattle.original.specs.Domain.{Within, Agrees, IsDone, stage, AllDone, isInk, sent, alsoTold, told, AllWithin, Walked, walk}
-use Rattle.original.proofs.Inks.{by-ink, ink-turns}
+use Rattle.original.specs.Domain.{Within, Agrees, IsDone, stage, AllDone, ours, sent, alsoTold, told, AllWithin, Walked, walk}
+use Rattle.original.proofs.Ours.{by-ours, ours-turns}
 use Rattle.original.proofs.Settings.{texture-agrees, fog-agrees, number-agrees, light-agrees, lookat-agrees, geometry-agrees, microcode-agrees}
 use Rattle.original.proofs.Combined.{matrix-agrees, force-agrees, pop-agrees}
 use Rattle.original.proofs.Views.{viewport-agrees}
@@ -31,7 +31,7 @@ abbrev pub Owed : (Book → World → Type 0) → Command → Book → World →
 Owed T c k w = Accepted (λ vs t e. Agrees T (alsoTold c vs) (enter t e k) (execute c w)) (stage c k)
 
 -- EVERY ACCEPTED COMMAND OF THE DOMAIN that the original is sent: it is done too, tells the same but for the count of a matrix, and leaves the same
-pub agrees : (o : Offsets) (k : Book) (w : World) → Same o k w → (c : Command) → isInk c ≡ false → Within c → Owed (Same o) c k w
+pub agrees : (o : Offsets) (k : Book) (w : World) → Same o k w → (c : Command) → ours c ≡ false → Within c → Owed (Same o) c k w
 agrees o k w N (matrix flags bytes at) q h = matrix-agrees N flags bytes at h
 agrees o k w N (force bytes at) q h = force-agrees N bytes at h
 agrees o k w N (pop count) q h = pop-agrees N (λ a b e. e) count
@@ -46,6 +46,7 @@ agrees o k w N (lookat slot bytes at) q h = lookat-agrees N slot bytes at h
 agrees o k w N (microcode to) q h = microcode-agrees N to
 agrees o k w N (load first count bytes at) q h = load-agrees N first count bytes at h
 agrees o k w N (cull first last) q h = cull-agrees N first last
+agrees o k w N (explain first last) q h = absurd (false≢true (sym q))
 agrees o k w N (depth slot threshold) q h = depth-agrees N slot threshold h
 agrees o k w N (modify slot attribute value) q h = modify-agrees N slot attribute value h
 agrees o k w N (draw a b c material mode colour prim) q h = draw-agrees N a b c material mode colour prim
@@ -63,10 +64,10 @@ abbrev pub DoneFrom : List Command → Book → Type 0
 DoneFrom [] k = Unit {0}
 DoneFrom (c ∷ cs) k = IsDone (stage c k) × DoneFrom cs (turn (stage c k) k)
 
--- what each tells that the original tells too, but for the ink counts
+-- what each tells that the original tells too, but for those that are not sent
 abbrev pub tellings : List Command → Book → List (List ℕ)
 tellings [] k = []
-tellings (c ∷ cs) k = cond (isInk c) (tellings cs (turn (stage c k) k)) (alsoTold c (tells (stage c k)) ∷ tellings cs (turn (stage c k) k))
+tellings (c ∷ cs) k = cond (ours c) (tellings cs (turn (stage c k) k)) (alsoTold c (tells (stage c k)) ∷ tellings cs (turn (stage c k) k))
 
 -- the answer's values are what the plan tells
 answer-tells : (c : Command) (p : Port) → result stage c p .values ≡ tells (stage c (book p))
@@ -83,7 +84,7 @@ on-books [] p h d = (tt, refl)
 on-books (c ∷ cs) p h d =
     let s = step-book familyOf limit c p h in
     let r = on-books cs (step stage c p) (s .0) (d .1) in
-    ((d .0, subst (DoneFrom cs) (s .2) (r .0)), ap₂ (λ (a : List ℕ) (b : List (List ℕ)). cond (isInk c) b (a ∷ b)) (ap (alsoTold c) (answer-tells c p)) (r .1 ∙ ap (tellings cs) (s .2)))
+    ((d .0, subst (DoneFrom cs) (s .2) (r .0)), ap₂ (λ (a : List ℕ) (b : List (List ℕ)). cond (ours c) b (a ∷ b)) (ap (alsoTold c) (answer-tells c p)) (r .1 ∙ ap (tellings cs) (s .2)))
 
 -- and the other way round
 pub on-port : (cs : List Command) (p : Port) → Fits p → DoneFrom cs (book p) → AllDone cs p
@@ -124,7 +125,7 @@ pub follows-none : (T : Book → World → Type 0) (k : Book) (w : World) → T 
 unfolding walk course
 follows-none T k w h = record { walked = record { values = []; world = w }; is = refl; values = refl; after = h }
 
-pub follows-more : (T S : Book → World → Type 0) (c : Command) → isInk c ≡ false → (cs : List Command) (k : Book) (w : World) → Stepped S c k w → ((v : World) → S (turn (stage c k) k) v → Follows T cs (turn (stage c k) k) v) → Follows T (c ∷ cs) k w
+pub follows-more : (T S : Book → World → Type 0) (c : Command) → ours c ≡ false → (cs : List Command) (k : Book) (w : World) → Stepped S c k w → ((v : World) → S (turn (stage c k) k) v → Follows T cs (turn (stage c k) k) v) → Follows T (c ∷ cs) k w
 unfolding walk course
 follows-more T S c q cs k w s f =
     let r = f (s .went .world) (s .after) in
@@ -135,16 +136,16 @@ follows-more T S c q cs k w s f =
       after = r .after;
     }
 
--- an ink count, which is not sent
-pub follows-ink : (T : Book → World → Type 0) (colour : ℕ) (cs : List Command) (k : Book) (w : World) → Follows T cs (turn (stage (ink colour) k) k) w → Follows T (ink colour ∷ cs) k w
+-- one that is not sent
+pub follows-ours : (T : Book → World → Type 0) (c : Command) → ours c ≡ true → (cs : List Command) (k : Book) (w : World) → Follows T cs (turn (stage c k) k) w → Follows T (c ∷ cs) k w
 unfolding course
-follows-ink T colour cs k w f = record { walked = f .walked; is = f .is; values = f .values; after = f .after }
+follows-ours T c q cs k w f = record { walked = f .walked; is = rw q (f .is); values = rw q (f .values); after = f .after }
 
 -- EVERY LIST OF ACCEPTED COMMANDS OF THE DOMAIN
 pub follows : (o : Offsets) (cs : List Command) (k : Book) (w : World) → Same o k w → AllWithin cs → DoneFrom cs k → Follows (Same o) cs k w
 follows o [] k w N h d = follows-none (Same o) k w N
 follows o (c ∷ cs) k w N h d =
-    by-ink (λ c. Within c → IsDone (stage c k) → DoneFrom cs (turn (stage c k) k) → Follows (Same o) (c ∷ cs) k w)
-    (λ colour _ _ e. follows-ink (Same o) colour cs k w (follows o cs (turn (stage (ink colour) k) k) w (subst (λ (m : Book). Same o m w) (sym (ink-turns colour k)) N) (h .1) e))
+    by-ours (λ c. Within c → IsDone (stage c k) → DoneFrom cs (turn (stage c k) k) → Follows (Same o) (c ∷ cs) k w)
+    (λ c q _ _ e. follows-ours (Same o) c q cs k w (follows o cs (turn (stage c k) k) w (subst (λ (m : Book). Same o m w) (sym (ours-turns c q k)) N) (h .1) e))
     (λ c q i a e. follows-more (Same o) (Same o) c q cs k w (stepped (Same o) c k w (agrees o k w N c q i) a) (λ v M. follows o cs (turn (stage c k) k) v M (h .1) e))
     c (h .0) (d .0) (d .1)

@@ -16,7 +16,7 @@ pub mod Modifies
 pub mod Settles
 pub mod Vertexes
 pub mod Loads
-pub mod Inks
+pub mod Ours
 pub mod Follows
 pub mod Starts
 pub mod Prologues

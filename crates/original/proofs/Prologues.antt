@@ -20,11 +20,11 @@ use Rattle.sequence.proofs.Accepts.{Accepted, on-load}
 use Rattle.original.specs.Rsp.{TextureState, default}
 use Rattle.original.specs.Walk.{World, Went, begun, execute}
 use Rattle.original.specs.Relation.{Offsets, Meets, joined, ViewSame, Near, Same}
-use Rattle.original.specs.Domain.{Data, IsDone, isInk, AllWithin, Walked, Prologue, prologue, stage, portScales, rustScales, before, OneMore, openedAs, Demand2, BeforeIs}
+use Rattle.original.specs.Domain.{Data, IsDone, ours, AllWithin, Walked, Prologue, prologue, stage, portScales, rustScales, before, OneMore, openedAs, Demand2, BeforeIs}
 use Rattle.original.specs.Drawing.{Result, Ok, Err, texcoords-then}
 use Rattle.original.proofs.Corners.{corners-same}
 use Rattle.original.proofs.Views.{length-fours}
-use Rattle.original.proofs.Inks.{inks-rest}
+use Rattle.original.proofs.Ours.{sent-rest}
 use Rattle.original.proofs.Settings.{texture-agrees, fog-agrees, number-agrees, light-agrees, lookat-agrees, geometry-agrees}
 use Rattle.original.proofs.Combined.{matrix-agrees, pop-agrees}
 use Rattle.original.proofs.Loads.{Scaled, load-scaled}
@@ -86,7 +86,7 @@ module _ (p : Prologue) (rest : List Command) (T : Book → World → Type 0) (o
   Rest cs = (k : Book) (w : World) → Ready k w → AllWithin cs → DoneFrom cs k → Follows T cs k w
 
   -- a setting that keeps what is said, and then the rest
-  then : (c : Command) → isInk c ≡ false → (cs : List Command) → Rest cs → (k : Book) (w : World) → Stepped Ready c k w → AllWithin cs → DoneFrom cs (turn (stage c k) k) → Follows T (c ∷ cs) k w
+  then : (c : Command) → ours c ≡ false → (cs : List Command) → Rest cs → (k : Book) (w : World) → Stepped Ready c k w → AllWithin cs → DoneFrom cs (turn (stage c k) k) → Follows T (c ∷ cs) k w
   then c q cs f k w s h d = follows-more T Ready c q cs k w s (λ v M. f (turn (stage c k) k) v M h d)
 
   -- the vertex
@@ -236,7 +236,7 @@ equals-original u l h p cs i d =
       values = k .1 ∙ ap (tellings (prologue p ++ cs)) (b .1) ∙ f .values;
       after = m;
       corners = corners-same m;
-      unmoved = inks-rest (prologue p ++ cs) (openedAs u l);
+      unmoved = sent-rest (prologue p ++ cs) (openedAs u l);
     }
 
 -- WHAT `before` COUNTS

@@ -16,7 +16,7 @@ use Rattle.change.specs.declared.Asked.the-variants.{Known, Unknown}
 use Rattle.change.specs.Decoded.{decoded}
 use Rattle.triangle.specs.Slot.{held, culls}
 use Rattle.stage.specs.declared.State.{State}
-use Rattle.stage.specs.Modify.{moved, scaleEdit, rowChange, asking, changePlan, modifyPlan, inkPlan}
+use Rattle.stage.specs.Modify.{moved, scaleEdit, rowChange, asking, changePlan, modifyPlan}
 use Rattle.stage.specs.Plan.{Table, Edit, keep, grow, Edits, Plan, refuse, does, unless, pick, lent, judge, appended, appending, untouched, telling}
 use Rattle.stage.specs.Sound.{stateSound}
 use Rattle.stage.specs.Matrices.{combine, matrixStores, matrixPlan, forceStores, forcePlan, popPlan, viewing, viewportPlan, geometryPlan}
@@ -26,11 +26,11 @@ use Rattle.triangle.specs.Run.{settings}
 use Rattle.vertex.specs.Vertices.{verticesAt}
 use Rattle.stage.specs.Load.{settled, loadEdits, loadLent, loadPlan}
 use Rattle.stage.specs.Draw.{slotsFrom, judgeCodes, cullPlan, depthPlan, judgeEver, triangle, runEdit, drawPlan}
-use Rattle.sequence.specs.Sequence.{Command, matrix, force, pop, viewport, geometry, texture, fog, number, light, lookat, microcode, load, cull, depth, modify, draw, ink, Book, loadOf, plan}
+use Rattle.sequence.specs.Sequence.{Command, matrix, force, pop, viewport, geometry, texture, fog, number, light, lookat, microcode, load, cull, explain, depth, modify, draw, ink, Book, loadOf, plan}
 use Rattle.original.specs.Drawing.{common, cull-display-list, branch-z, known, modify-vertex}
 use Rattle.original.specs.Walk.{World, execute, yesNo}
 use Rattle.original.specs.Relation.{Offsets, isSome, Same}
-use Rattle.original.specs.Domain.{stage, Beside}
+use Rattle.original.specs.Domain.{stage, ours, Beside}
 use Rattle.original.proofs.Tests.{there}
 use Rattle.original.proofs.Modifies.{mark-at, isKnown, known-is}
 
@@ -66,10 +66,10 @@ module _ (Q : ℕ → List ℕ → Type 0) where
   unfolding combine
   re-combine s t m f = re-appending 1 t m _ f (λ e. re-does _ _ _)
 
-  re-telling : (n : ℕ) (p : Plan) → Refused Q p → Refused Q (telling n p)
+  re-telling : (ws : List ℕ) (p : Plan) → Refused Q p → Refused Q (telling ws p)
   unfolding telling Refused
-  re-telling n (refuse m vs) h = h
-  re-telling n (does vs t e) h = tt
+  re-telling ws (refuse m vs) h = h
+  re-telling ws (does vs t e) h = tt
 
   re-ever : (slots : ℕ) (s : State) (is : List ℕ) (p : Plan) → ((vs : List ℕ) → Q 6 vs) → Refused Q p → Refused Q (judgeEver slots s is p)
   re-ever slots s [] p f g = g
@@ -212,42 +212,43 @@ module _ {o : Offsets} {k : Book} {w : World} (N : Same o k w) where
   quiet c vs t e = re-does _ vs t e
 
   -- WHERE THE STAGE REFUSES WITH 2, 3, 4 OR 5, THE ORIGINAL REFUSES TOO, WITH THE SAME VALUES
-  pub refused-too : (c : Command) → Refused (Too c) (stage c k)
-  unfolding plan matrixPlan matrixStores forcePlan forceStores popPlan viewportPlan viewing geometryPlan texturePlan fogPlan numberPlan lightPlan ambientPlan slotPlan lookatPlan microcodePlan loadPlan drawPlan inkPlan
-  refused-too (matrix flags bytes at) =
+  pub refused-too : (c : Command) → ours c ≡ false → Refused (Too c) (stage c k)
+  unfolding plan matrixPlan matrixStores forcePlan forceStores popPlan viewportPlan viewing geometryPlan texturePlan fogPlan numberPlan lightPlan ambientPlan slotPlan lookatPlan microcodePlan loadPlan drawPlan
+  refused-too (matrix flags bytes at) q =
       let c : Command = matrix flags bytes at in
       re-telling _ _ _ (sound-refused c _ (data-refused c _ _ _ (short-refused c (lent 1 (k .matrices) keep ∷ []) _ (re-combine _ _ _ _ (not-one c 9 (omega arith))))))
-  refused-too (force bytes at) =
+  refused-too (force bytes at) q =
       let c : Command = force bytes at in
       re-telling _ _ _ (sound-refused c _ (data-refused c _ _ _ (short-refused c (lent 1 (k .matrices) keep ∷ []) _ (re-combine _ _ _ _ (not-one c 9 (omega arith))))))
-  refused-too (pop count) =
+  refused-too (pop count) q =
       let c : Command = pop count in
       sound-refused c _ (short-refused c (lent 1 (k .matrices) keep ∷ []) _ (re-pick _ _ _ _ (quiet c _ _ _) (re-combine _ _ _ _ (not-one c 9 (omega arith)))))
-  refused-too (viewport bytes at) =
+  refused-too (viewport bytes at) q =
       let c : Command = viewport bytes at in
       sound-refused c _ (data-refused c _ _ _ (short-refused c (lent 2 (k .viewports) keep ∷ []) _ (re-appending _ _ _ _ _ (not-one c 9 (omega arith)) (λ e. quiet c _ _ _))))
-  refused-too (geometry off on) = sound-refused (geometry off on) _ (quiet (geometry off on) _ _ _)
-  refused-too (texture tile level on sc tc) = sound-refused (texture tile level on sc tc) _ (quiet (texture tile level on sc tc) _ _ _)
-  refused-too (fog multiplier offset) = sound-refused (fog multiplier offset) _ (quiet (fog multiplier offset) _ _ _)
-  refused-too (number bytes) = sound-refused (number bytes) _ (quiet (number bytes) _ _ _)
-  refused-too (light slot bytes at) =
+  refused-too (geometry off on) q = sound-refused (geometry off on) _ (quiet (geometry off on) _ _ _)
+  refused-too (texture tile level on sc tc) q = sound-refused (texture tile level on sc tc) _ (quiet (texture tile level on sc tc) _ _ _)
+  refused-too (fog multiplier offset) q = sound-refused (fog multiplier offset) _ (quiet (fog multiplier offset) _ _ _)
+  refused-too (number bytes) q = sound-refused (number bytes) _ (quiet (number bytes) _ _ _)
+  refused-too (light slot bytes at) q =
       let c : Command = light slot bytes at in
       sound-refused c _ (re-pick _ _ _ _ (data-refused c _ _ _ (quiet c _ _ _)) (data-refused c _ _ _ (quiet c _ _ _)))
-  refused-too (lookat slot bytes at) = let c : Command = lookat slot bytes at in sound-refused c _ (data-refused c _ _ _ (quiet c _ _ _))
-  refused-too (microcode to) = sound-refused (microcode to) _ (quiet (microcode to) _ _ _)
-  refused-too (load first count bytes at) =
+  refused-too (lookat slot bytes at) q = let c : Command = lookat slot bytes at in sound-refused c _ (data-refused c _ _ _ (quiet c _ _ _))
+  refused-too (microcode to) q = sound-refused (microcode to) _ (quiet (microcode to) _ _ _)
+  refused-too (load first count bytes at) q =
       let c : Command = load first count bytes at in
       sound-refused c _
       (re-unless _ (leb count 256 && leb (first + count) 256) 1 (count ∷ first ∷ []) _ (λ _ a _. absurd (omega arith))
       (λ _. data-refused c _ _ _ (short-refused c (loadLent (loadOf k) untouched) _ (re-judge _ 9 (loadLent (loadOf k) (loadEdits (settled f3dex2 (k .state) (k .matrices .used) (k .scales .used) (k .fogs .used)) (k .state) (verticesAt bytes at count))) _ (not-one c 9 (omega arith)) (quiet c _ _ _)))))
-  refused-too (cull first last) = cull-refused first last
-  refused-too (depth slot threshold) = depth-refused slot threshold
-  refused-too (modify slot attribute value) = modify-refused slot attribute value
-  refused-too (draw a b c material mode colour prim) =
+  refused-too (cull first last) q = cull-refused first last
+  refused-too (explain first last) q = absurd (false≢true (sym q))
+  refused-too (depth slot threshold) q = depth-refused slot threshold
+  refused-too (modify slot attribute value) q = modify-refused slot attribute value
+  refused-too (draw a b c material mode colour prim) q =
       let d : Command = draw a b c material mode colour prim in
       sound-refused d _
       (re-pick _ _ _ _ (quiet d _ _ _)
       (re-ever _ 256 (k .state) (a ∷ b ∷ c ∷ []) _ (not-one d 6 (omega arith))
       (re-unless _ _ 10 [] _ (λ _. not-one d 10 (omega arith) [])
       (λ _. short-refused d (lent 8 (k .drawing .indices) keep ∷ lent 9 (k .drawing .runs) keep ∷ []) _ (re-unless _ _ 10 [] _ (λ _. not-one d 10 (omega arith) []) (λ _. re-judge _ 9 (lent 8 (k .drawing .indices) (grow (triangle f3dex2 (k .state) a b c)) ∷ lent 9 (k .drawing .runs) (runEdit (k .drawing .runs .used) (length (k .drawing .indices .used)) (settings (material ∷ mode ∷ colour ∷ prim ∷ []) (culls f3dex2 (k .state .geometry)) (k .state .microcode))) ∷ []) _ (not-one d 9 (omega arith)) (quiet d _ _ _)))))))
-  refused-too (ink colour) = let c : Command = ink colour in sound-refused c _ (short-refused c (lent 7 (k .rows) keep ∷ lent 8 (k .drawing .indices) keep ∷ []) _ (quiet c _ _ _))
+  refused-too (ink colour) q = absurd (false≢true (sym q))

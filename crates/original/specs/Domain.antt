@@ -17,7 +17,7 @@ use Rattle.stage.specs.Sound.{limit}
 use Rattle.stage.specs.Plan.{Plan, refuse, does}
 use Rattle.stage.specs.Opening.{zeros}
 use Rattle.stage.specs.Matrices.{viewportEntry}
-use Rattle.sequence.specs.Sequence.{Command, matrix, force, pop, viewport, geometry, texture, fog, number, light, lookat, microcode, load, cull, depth, modify, draw, ink, Areas, Port, Book, book, plan, result, step, run, accepted, opening}
+use Rattle.sequence.specs.Sequence.{Command, matrix, force, pop, viewport, geometry, texture, fog, number, light, lookat, microcode, load, cull, explain, depth, modify, draw, ink, Areas, Port, Book, book, plan, result, step, run, accepted, opening}
 use Rattle.original.specs.Rsp.{default}
 use Rattle.original.specs.Drawing.{DiagKind, InvalidCullRange, InvalidConditionalVertex, InvalidVertexTransform, InvalidModifyVertex, Result, Ok, Err}
 use Rattle.original.specs.Walk.{World, Went, begun, execute}
@@ -28,7 +28,7 @@ pub record Data (b : List ℕ) : Type 0 where
   pub bytes : (i : ℕ) → getD b i 0 < 256
   pub short : length b ≤ 16777216
 
--- arguments of the original's types; an ink count is not sent to it
+-- arguments of the original's types; the explainer and an ink count are not sent to it
 abbrev pub Within : Command → Type 0
 Within (matrix flags bytes at) = Data bytes
 Within (force bytes at) = Data bytes
@@ -43,6 +43,7 @@ Within (lookat slot bytes at) = Data bytes
 Within (microcode to) = Unit {0}
 Within (load first count bytes at) = Data bytes
 Within (cull first last) = Unit {0}
+Within (explain first last) = Unit {0}
 Within (depth slot threshold) = threshold < 4294967296
 Within (modify slot attribute value) = value < 4294967296
 Within (draw a b c material mode colour prim) = Unit {0}
@@ -69,30 +70,31 @@ abbrev pub AllDone : List Command → Port → Type 0
 AllDone [] p = Unit {0}
 AllDone (c ∷ cs) p = IsDone (stage c (book p)) × AllDone cs (step stage c p)
 
--- an ink count, the one command that the original does not have
-abbrev pub isInk : Command → Bool
-isInk (matrix flags bytes at) = false
-isInk (force bytes at) = false
-isInk (pop count) = false
-isInk (viewport bytes at) = false
-isInk (geometry off on) = false
-isInk (texture tile level on sc tc) = false
-isInk (fog multiplier offset) = false
-isInk (number bytes) = false
-isInk (light slot bytes at) = false
-isInk (lookat slot bytes at) = false
-isInk (microcode to) = false
-isInk (load first count bytes at) = false
-isInk (cull first last) = false
-isInk (depth slot threshold) = false
-isInk (modify slot attribute value) = false
-isInk (draw a b c material mode colour prim) = false
-isInk (ink colour) = true
+-- the explainer and the ink count, the two commands that the original does not have
+abbrev pub ours : Command → Bool
+ours (matrix flags bytes at) = false
+ours (force bytes at) = false
+ours (pop count) = false
+ours (viewport bytes at) = false
+ours (geometry off on) = false
+ours (texture tile level on sc tc) = false
+ours (fog multiplier offset) = false
+ours (number bytes) = false
+ours (light slot bytes at) = false
+ours (lookat slot bytes at) = false
+ours (microcode to) = false
+ours (load first count bytes at) = false
+ours (cull first last) = false
+ours (explain first last) = true
+ours (depth slot threshold) = false
+ours (modify slot attribute value) = false
+ours (draw a b c material mode colour prim) = false
+ours (ink colour) = true
 
--- the commands that the original is sent: all but the ink counts
+-- the commands that the original is sent: all but those two
 abbrev pub sent : List Command → List Command
 sent [] = []
-sent (c ∷ cs) = cond (isInk c) (sent cs) (c ∷ sent cs)
+sent (c ∷ cs) = cond (ours c) (sent cs) (c ∷ sent cs)
 
 -- of an answer's values, those that the original tells too: it does not count a matrix's entries that are not exact, so that number is left aside
 abbrev pub alsoTold : Command → List ℕ → List ℕ
@@ -109,6 +111,7 @@ alsoTold (lookat slot bytes at) vs = vs
 alsoTold (microcode to) vs = vs
 alsoTold (load first count bytes at) vs = vs
 alsoTold (cull first last) vs = vs
+alsoTold (explain first last) vs = vs
 alsoTold (depth slot threshold) vs = vs
 alsoTold (modify slot attribute value) vs = vs
 alsoTold (draw a b c material mode colour prim) vs = vs
@@ -117,7 +120,7 @@ alsoTold (ink colour) vs = vs
 -- those values of each answer that the stage, sent them all, gives to the commands that are sent
 abbrev pub told : List Command → Port → List (List ℕ)
 told [] p = []
-told (c ∷ cs) p = cond (isInk c) (told cs (step stage c p)) (alsoTold c (result stage c p .values) ∷ told cs (step stage c p))
+told (c ∷ cs) p = cond (ours c) (told cs (step stage c p)) (alsoTold c (result stage c p .values) ∷ told cs (step stage c p))
 
 -- each is within the domain
 abbrev pub AllWithin : List Command → Type 0

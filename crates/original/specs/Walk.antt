@@ -3,7 +3,7 @@ use Prim.Native.Nat.{ℕ}
 use mathlib.Core.Bool.{Bool, cond}
 use mathlib.Core.List.{List, [], _∷_}
 use lib.IntN.{ℤ, pos}
-use Rattle.sequence.specs.Sequence.{Command, matrix, force, pop, viewport, geometry, texture, fog, number, light, lookat, microcode, load, cull, depth, modify, draw, ink}
+use Rattle.sequence.specs.Sequence.{Command, matrix, force, pop, viewport, geometry, texture, fog, number, light, lookat, microcode, load, cull, explain, depth, modify, draw, ink}
 use Rattle.stage.specs.declared.settings.Microcode.{Microcode}
 use Rattle.stage.specs.declared.settings.Microcode.the-variants.{F3dex2}
 use Rattle.original.specs.Rsp.{Rsp, Matrices, Viewports, TextureState, Lighting, Looking, default, set-initial-microcode, switch-microcode, matrix-fn, force-matrix, pop-matrix, prepare-vertex, modify-geometry, geometry-version, set-viewport, set-num-lights, set-light, set-lookat}
@@ -102,7 +102,7 @@ abbrev pub changed : World → Result (Rsp × Scene) → Result Went
 changed w (Err k) = Err k
 changed w (Ok x) = done (with-both w x)
 
--- each command by the function that rsp_f3dex2.rs calls for it; a load by prepare_vertex and then set_vertex. Ink count is not the original's: it is never sent
+-- each command by the function that rsp_f3dex2.rs calls for it; a load by prepare_vertex and then set_vertex. The explainer and the ink count are not the original's: they are never sent
 unfoldable pub execute : Command → World → Result Went
 execute (matrix flags bytes at) w = done (with-rsp w (with-matrices (w .rsp) (matrix-fn bytes at flags (w .rsp .matrices))))
 execute (force bytes at) w = done (with-rsp w (with-matrices (w .rsp) (force-matrix bytes at (w .rsp .matrices))))
@@ -124,6 +124,7 @@ execute (load first count bytes at) w =
     let r = with-matrices (w .rsp) (prepare-vertex (w .rsp .matrices)) in
     Ok record { values = cond (w .rsp .matrices .mvp-valid) 0 1 ∷ []; world = with-both w (set-vertex bytes at count first (w .fog-mul) (w .fog-offset) (r, w .scene)) }
 execute (cull first last) w = yesNo w (cull-display-list first last (w .rsp .slots))
+execute (explain first last) w = done w
 execute (depth slot threshold) w = yesNo w (branch-z slot threshold (w .rsp .slots))
 execute (modify slot attribute value) w = changed w (modify-vertex slot attribute value (w .rsp, w .scene))
 execute (draw a b c material mode colour prim) w = done (with-both w (draw-tri a b c material mode colour prim (w .rsp, w .scene)))

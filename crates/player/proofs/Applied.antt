@@ -21,7 +21,7 @@ use Rattle.stage.specs.Matrices.{area1, area2, matrixPlan, forcePlan, popPlan, 
 use Rattle.stage.specs.Lights.{texturePlan, fogPlan, numberPlan, lightPlan, lookatPlan, microcodePlan}
 use Rattle.stage.specs.Load.{LoadAreas, loadMeans}
 use Rattle.stage.specs.Modify.{modifyMeans, inkPlan}
-use Rattle.stage.specs.Draw.{cullPlan, depthPlan, drawMeans}
+use Rattle.stage.specs.Draw.{cullPlan, explainPlan, depthPlan, drawMeans}
 use Rattle.sequence.specs.Sequence.{Areas, with12}
 use Rattle.sequence.proofs.Joined as joined
 use Rattle.trace.specs.declared.rooms.Lengths.{Lengths}
@@ -75,16 +75,20 @@ module _ (c : Call) (d : List ℕ) (s : State) (r : Answered) where
   unfolding setOf acted pick
   set-microcode e h l = joined.joined-microcode familyOf limit (record { state = s; areas = l }) (microcodeOf (c .args .a)) r h ∙ rw e
 
+  pub set-explain : c .op ≡ 0x14 → outcome r tt ≡ carry nothing (explainPlan (limit s) s (c .args .a) (c .args .b)) s tt → SetAre c d s r
+  unfolding setOf acted pick
+  set-explain e h l = joined.joined-explain familyOf limit (record { state = s; areas = l }) (c .args .a) (c .args .b) r h ∙ rw e
+
 -- tampered with, and nothing else
 pub set-poked : (c : Call) (d : List ℕ) (s t : State) → c .op ≡ 0x22 → t ≡ pokedState s (c .args .a) (c .args .b) (c .args .c) → SetAre c d s (record { state = t; answer = Done })
 unfolding setOf acted pick
 set-poked c d s t e h l = rw (e, h)
 
 -- any other op
-pub set-rest : (c : Call) (d : List ℕ) (s : State) → NoneOf (c .op) (0x22 ∷ 0x11 ∷ 0x0e ∷ 0x0d ∷ 0x0b ∷ 0x0a ∷ 0x09 ∷ 0x08 ∷ 0x07 ∷ 0x05 ∷ []) → SetAre c d s (record { state = s; answer = Done })
+pub set-rest : (c : Call) (d : List ℕ) (s : State) → NoneOf (c .op) (0x22 ∷ 0x14 ∷ 0x11 ∷ 0x0e ∷ 0x0d ∷ 0x0b ∷ 0x0a ∷ 0x09 ∷ 0x08 ∷ 0x07 ∷ 0x05 ∷ []) → SetAre c d s (record { state = s; answer = Done })
 unfolding setOf acted pick
 set-rest c d s n l =
-    rw (ne-eqb _ _ (n .1), ne-eqb _ _ (n .0 .1), ne-eqb _ _ (n .0 .0 .1), ne-eqb _ _ (n .0 .0 .0 .1), ne-eqb _ _ (n .0 .0 .0 .0 .1), ne-eqb _ _ (n .0 .0 .0 .0 .0 .1), ne-eqb _ _ (n .0 .0 .0 .0 .0 .0 .1), ne-eqb _ _ (n .0 .0 .0 .0 .0 .0 .0 .1), ne-eqb _ _ (n .0 .0 .0 .0 .0 .0 .0 .0 .1), ne-eqb _ _ (n .0 .0 .0 .0 .0 .0 .0 .0 .0 .1))
+    rw (ne-eqb _ _ (n .1), ne-eqb _ _ (n .0 .1), ne-eqb _ _ (n .0 .0 .1), ne-eqb _ _ (n .0 .0 .0 .1), ne-eqb _ _ (n .0 .0 .0 .0 .1), ne-eqb _ _ (n .0 .0 .0 .0 .0 .1), ne-eqb _ _ (n .0 .0 .0 .0 .0 .0 .1), ne-eqb _ _ (n .0 .0 .0 .0 .0 .0 .0 .1), ne-eqb _ _ (n .0 .0 .0 .0 .0 .0 .0 .0 .1), ne-eqb _ _ (n .0 .0 .0 .0 .0 .0 .0 .0 .0 .1), ne-eqb _ _ (n .0 .0 .0 .0 .0 .0 .0 .0 .0 .0 .1))
 
 -- ---- those on matrices and viewport
 

@@ -17,7 +17,7 @@ use Rattle.stage.specs.declared.settings.Microcode.{Microcode}
 use Rattle.stage.specs.declared.settings.Microcode.the-variants.{F3dex2, F3dex2NoN}
 use Rattle.stage.specs.Plan.{Outcome, outcome, carry}
 use Rattle.stage.specs.Opening.{blank, openingPlan, areas12}
-use Rattle.sequence.specs.Sequence.{Command, matrix, force, pop, viewport, geometry, texture, fog, number, light, lookat, microcode, load, cull, depth, modify, draw, ink, Areas, Port, Machine, plan, result, with12}
+use Rattle.sequence.specs.Sequence.{Command, matrix, force, pop, viewport, geometry, texture, fog, number, light, lookat, microcode, load, cull, explain, depth, modify, draw, ink, Areas, Port, Machine, plan, result, with12}
 use Rattle.trace.specs.declared.rooms.Lengths.{Lengths}
 use Rattle.trace.specs.declared.script.Call.{Call}
 use Rattle.trace.specs.Acts.{writtenTo}
@@ -71,8 +71,9 @@ setOf c d =
     (on c 0x0d (sends (cull (x .a) (x .b)))
     (on c 0x0e (sends (depth (x .a) (x .b)))
     (on c 0x11 (sends (microcode (microcodeOf (x .a))))
+    (on c 0x14 (sends (explain (x .a) (x .b)))
     (on c 0x22 (pokes (x .a) (x .b) (x .c))
-    rests)))))))))
+    rests))))))))))
 
 -- what is lent none does that in any areas
 abbrev pub SetAre : Call → List ℕ → State → Answered → Type 0

@@ -80,6 +80,7 @@ fn set(state: State, c: Call, data: &[u8]) -> Answered
         ops::CULL => state.cull_display_list(a.a, a.b),
         ops::DEPTH => state.branch_z(a.a, a.b),
         ops::UCODE => microcode(state, a.a),
+        ops::EXPLAIN => state.explain_cull(a.a, a.b),
         ops::POKE => Answered {
             state: act::poked(state, a.a, a.b, a.c),
             answer: Answer::Done,

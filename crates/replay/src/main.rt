@@ -33,8 +33,10 @@ fn play(
     let mut at = trace::header::size_of(s);
     let mut i = 0;
     while at < s.len() {
-        let c = trace::script::call_at(trace::ops::shape_of(s[at]), s, at);
+        let h = trace::ops::shape_of(s[at]);
+        let c = trace::script::call_at(h, s, at);
         if !c.whole {
+            show::stopped(i, at, h.known);
             break;
         }
         let from = c.from;
@@ -157,17 +159,17 @@ fn judge(s: &[u8]) {
         show::too_long(trace::rooms::SCRIPT);
         return;
     }
-    if s.len() < trace::header::size_of(s) {
-        show::text(b"replay: the header is cut short\n");
+    if !trace::header::is_trace(s) {
+        show::complain(b"the header begins with neither GST1 nor GST2: this is no trace\n");
         return;
     }
-    if !trace::header::is_trace(s) {
-        show::text(b"replay: the header begins with neither GST1 nor GST2\n");
+    if s.len() < trace::header::size_of(s) {
+        show::complain(b"the header is cut short: this is no whole trace\n");
         return;
     }
     let own = trace::header::lengths_of(s);
     if !trace::header::served(own) {
-        show::text(b"replay: the header asks for an area over its bound\n");
+        show::complain(b"the header asks for an area over its bound\n");
         return;
     }
     replay(s, own);

@@ -22,6 +22,7 @@ use Rattle.change.specs.declared.Asked.the-variants.{Known, Unknown}
 use Rattle.change.specs.Decoded.{decoded}
 use Rattle.stage.specs.Modify.{moved, edits37, asking, scaleEdit, rowChange, changed, changePlan, modifyPlan, inkPlan}
 use Rattle.triangle.specs.Run.{settings, closed}
+use Rattle.reason.specs.Reason.{reason}
 use Rattle.triangle.specs.Slot.{bit, held, both, culls}
 use Rattle.vertex.specs.Vertices.{verticesAt}
 use Rattle.stage.specs.declared.State.{State}
@@ -31,7 +32,7 @@ use Rattle.stage.specs.With.{withCombined, withModel, withViewport, withDrawn}
 use Rattle.stage.specs.Matrices.{edits1, edits2, modelTop, combine, turned, matrixStores, matrixPlan, forceStores, forcePlan, popPlan, viewportEntry, viewing, viewportPlan}
 use Rattle.stage.specs.Load.{LoadTables, settled, settledState, sharedBy, loadEdits, loadLent, loadPlan}
 use Rattle.stage.specs.Rows.{fillSlots}
-use Rattle.stage.specs.Draw.{edits89, judgeCodes, slotsTo, codesOf, culled, cullPlan, near, depthPlan, judgeEver, placed, mark, triangle, runEdit, drawPlan}
+use Rattle.stage.specs.Draw.{edits89, judgeCodes, slotsTo, codesOf, culled, cullPlan, explainPlan, near, depthPlan, judgeEver, placed, mark, triangle, runEdit, drawPlan}
 
 -- Q holds of what the plan does, if it is accepted
 unfoldable pub Accepted : (List ℕ → State → Edits → Type 0) → Plan → Type 0
@@ -113,10 +114,10 @@ module _ (Q : List ℕ → State → Edits → Type 0) where
   on-combine s t m same new = on-appending 1 t m _ (λ e. on-does _ _ _ (same e)) (λ e k. on-does _ _ _ (new e k))
 
   -- a number told: Q is asked of it, whatever the plan tells by itself
-  pub on-telling : (n : ℕ) (p : Plan) → Accepted (λ _ t e. Q (n ∷ []) t e) p → Accepted Q (telling n p)
+  pub on-telling : (ws : List ℕ) (p : Plan) → Accepted (λ _ t e. Q ws t e) p → Accepted Q (telling ws p)
   unfolding telling Accepted
-  on-telling n (refuse m vs) h = tt
-  on-telling n (does vs t e) h = h
+  on-telling ws (refuse m vs) h = tt
+  on-telling ws (does vs t e) h = h
 
   -- 64 bytes, and an area for table 1
   on-reading : (s : State) (t : Table (List Float)) (bytes : List ℕ) (at : ℕ) (p : Plan) → (at + 64 ≤ length bytes → Accepted Q p)
@@ -264,8 +265,17 @@ module _ (Q : List ℕ → State → Edits → Type 0) (s : State) (t : Table (L
       → (at + 64 ≤ length bytes → (s′ : State) → s′ ≡ turned (flag (f .push) flags) (flag (f .load) flags) (flag (f .projection) flags) s (matrixAt bytes at) → Accepted Told (combine s′ t (laid (times (modelTop s′) (rows (s′ .projection) 0)))))
       → Accepted Q (matrixPlan f s t flags bytes at)
   unfolding matrixPlan matrixStores
-  on-matrix f flags h = on-telling Q (inexactAt bytes at) _ (on-reading Told s t bytes at _ (λ n. h n _ refl))
+  on-matrix f flags h = on-telling Q (inexactAt bytes at ∷ []) _ (on-reading Told s t bytes at _ (λ n. h n _ refl))
 
   pub on-force : (at + 64 ≤ length bytes → Accepted Told (combine s t (laid (matrixAt bytes at)))) → Accepted Q (forcePlan s t bytes at)
   unfolding forcePlan forceStores
-  on-force h = on-telling Q (inexactAt bytes at) _ (on-reading Told s t bytes at _ h)
+  on-force h = on-telling Q (inexactAt bytes at ∷ []) _ (on-reading Told s t bytes at _ h)
+
+-- the explainer: the test is accepted as before, and Q is asked of the reason
+module _ (Q : List ℕ → State → Edits → Type 0) (slots : ℕ) (s : State) (first last : ℕ) where
+  abbrev Reasoned : List ℕ → State → Edits → Type 0
+  Reasoned _ u e = Q (reason first (codesOf s (slotsTo first last))) u e
+
+  pub on-explain : (first ≤ last → last < slots → Coded s (slotsTo first last) → Q (reason first (codesOf s (slotsTo first last))) s untouched) → Accepted Q (explainPlan slots s first last)
+  unfolding explainPlan
+  on-explain h = on-telling Q (reason first (codesOf s (slotsTo first last))) _ (on-cull Reasoned slots s first last h)

@@ -20,9 +20,9 @@ use Rattle.stage.specs.Matrices.{area1, area2, combine, matrixPlan, forcePlan, 
 use Rattle.stage.specs.Lights.{texturePlan, fogPlan, numberPlan, lightPlan, lookatPlan, microcodePlan}
 use Rattle.stage.specs.Load.{LoadAreas, areasLoad, loadAreas, loadTables, loadEdits, loadPlan}
 use Rattle.stage.specs.Modify.{areas37, modifyPlan, inkPlan}
-use Rattle.stage.specs.Draw.{areas89, cullPlan, depthPlan, drawPlan}
-use Rattle.sequence.specs.Sequence.{matrix, force, pop, viewport, geometry, texture, fog, number, light, lookat, microcode, load, cull, depth, modify, draw, ink, Command, Areas, Port, book, plan, afterAll, result, step, with12, opening}
-use Rattle.sequence.proofs.Accepts.{Accepted, on-combine, on-matrix, on-force, on-pop, on-viewport, on-load, on-modify, on-cull, on-depth, on-ink, on-draw}
+use Rattle.stage.specs.Draw.{areas89, cullPlan, explainPlan, depthPlan, drawPlan}
+use Rattle.sequence.specs.Sequence.{matrix, force, pop, viewport, geometry, texture, fog, number, light, lookat, microcode, load, cull, explain, depth, modify, draw, ink, Command, Areas, Port, book, plan, afterAll, result, step, with12, opening}
+use Rattle.sequence.proofs.Accepts.{Accepted, on-combine, on-matrix, on-force, on-pop, on-viewport, on-load, on-modify, on-cull, on-explain, on-depth, on-ink, on-draw}
 use Rattle.sequence.proofs.Quiet.{on-geometry, on-texture, on-fog, on-number, on-light, on-lookat, on-microcode}
 
 -- ---- areas with some replaced
@@ -236,6 +236,11 @@ module _ (F : ℕ → Family) (limit : State → ℕ) (p : Port) where
   pub joined-cull : (first last : ℕ) (r : Answered) → outcome r tt ≡ carry nothing (cullPlan slots (p .state) first last) (p .state) tt → outcome r (p .areas) ≡ result (plan F limit) (cull first last) p
   unfolding result plan book
   joined-cull first last r e = quiet _ r (on-cull Quiet slots (p .state) first last (λ _ _ _. refl)) e
+
+  -- its explainer
+  pub joined-explain : (first last : ℕ) (r : Answered) → outcome r tt ≡ carry nothing (explainPlan slots (p .state) first last) (p .state) tt → outcome r (p .areas) ≡ result (plan F limit) (explain first last) p
+  unfolding result plan book
+  joined-explain first last r e = quiet _ r (on-explain Quiet slots (p .state) first last (λ _ _ _. refl)) e
 
   -- depth test
   pub joined-depth : (slot threshold : ℕ) (r : Answered) → outcome r tt ≡ carry nothing (depthPlan slots (p .state) slot threshold) (p .state) tt

@@ -21,6 +21,7 @@ use Rattle.stage.proofs.State.switch_microcode.Reads as microcode
 use Rattle.stage.proofs.State.load.Reads as load
 use Rattle.stage.proofs.State.modify_vertex.Reads as modify
 use Rattle.stage.proofs.State.cull_display_list.Reads as cull
+use Rattle.stage.proofs.State.explain_cull.Reads as explain
 use Rattle.stage.proofs.State.branch_z.Reads as depth
 use Rattle.stage.proofs.State.draw_tri.Reads as draw
 use Rattle.stage.proofs.State.ink_count.Reads as ink
@@ -95,6 +96,9 @@ only-microcode κs a r q x y p t = only-one _ r q tt tt p t .0
 
 pub only-cull : OnlyResult cull.Learnt
 only-cull κs a r q x y p t = only-one _ r q tt tt p t .0
+
+pub only-explain : OnlyResult explain.Learnt
+only-explain κs a r q x y p t = only-one _ r q tt tt p t .0
 
 pub only-depth : OnlyResult depth.Learnt
 only-depth κs a r q x y p t = only-one _ r q tt tt p t .0

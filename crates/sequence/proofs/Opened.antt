@@ -24,8 +24,8 @@ use Rattle.stage.specs.Matrices.{matrixStores, matrixPlan, forceStores, forcePl
 use Rattle.stage.specs.Lights.{texturePlan, fogPlan, numberPlan, lightPlan, lookatPlan, microcodePlan}
 use Rattle.stage.specs.Load.{loadPlan}
 use Rattle.stage.specs.Modify.{modifyPlan, inkPlan}
-use Rattle.stage.specs.Draw.{cullPlan, depthPlan, drawPlan}
-use Rattle.sequence.specs.Sequence.{Command, matrix, force, pop, viewport, geometry, texture, fog, number, light, lookat, microcode, load, cull, depth, modify, draw, ink, Areas, Port, Book, Alike, book, plan, result, step, run, with12, opening}
+use Rattle.stage.specs.Draw.{cullPlan, explainPlan, depthPlan, drawPlan}
+use Rattle.sequence.specs.Sequence.{Command, matrix, force, pop, viewport, geometry, texture, fog, number, light, lookat, microcode, load, cull, explain, depth, modify, draw, ink, Areas, Port, Book, Alike, book, plan, result, step, run, with12, opening}
 use Rattle.sequence.proofs.Turn.{turn}
 use Rattle.sequence.proofs.Accepts.{Accepted}
 use Rattle.sequence.proofs.Sized.{Fits, AllSized, kept, fitted}
@@ -152,14 +152,14 @@ unsound : (s : State) (q : Plan) → s .opened ≡ false → sound s q ≡ refus
 unfolding stateSound all unless
 unsound s q h = rw h
 
--- so it is where a number is told
-told-unsound : (n : ℕ) (s : State) (q : Plan) → s .opened ≡ false → telling n (sound s q) ≡ refuse 10 []
+-- so it is where values are told
+told-unsound : (vs : List ℕ) (s : State) (q : Plan) → s .opened ≡ false → telling vs (sound s q) ≡ refuse 10 []
 unfolding telling
-told-unsound n s q h = ap (telling n) (unsound s q h)
+told-unsound vs s q h = ap (telling vs) (unsound s q h)
 
 -- every command refuses it
 pub shut-plan : (F : ℕ → Family) (limit : State → ℕ) (c : Command) (k : Book) → k .state .opened ≡ false → plan F limit c k ≡ refuse 10 []
-unfolding plan matrixPlan matrixStores forcePlan forceStores popPlan viewportPlan geometryPlan texturePlan fogPlan numberPlan lightPlan lookatPlan microcodePlan loadPlan cullPlan depthPlan modifyPlan drawPlan inkPlan
+unfolding plan matrixPlan matrixStores forcePlan forceStores popPlan viewportPlan geometryPlan texturePlan fogPlan numberPlan lightPlan lookatPlan microcodePlan loadPlan cullPlan explainPlan depthPlan modifyPlan drawPlan inkPlan
 shut-plan F limit (matrix flags bytes at) k h = told-unsound _ (k .state) _ h
 shut-plan F limit (force bytes at) k h = told-unsound _ (k .state) _ h
 shut-plan F limit (pop count) k h = unsound (k .state) _ h
@@ -173,6 +173,7 @@ shut-plan F limit (lookat slot bytes at) k h = unsound (k .state) _ h
 shut-plan F limit (microcode to) k h = unsound (k .state) _ h
 shut-plan F limit (load first count bytes at) k h = unsound (k .state) _ h
 shut-plan F limit (cull first last) k h = unsound (k .state) _ h
+shut-plan F limit (explain first last) k h = told-unsound _ (k .state) _ h
 shut-plan F limit (depth slot threshold) k h = unsound (k .state) _ h
 shut-plan F limit (modify slot attribute value) k h = unsound (k .state) _ h
 shut-plan F limit (draw a b c material mode colour prim) k h = unsound (k .state) _ h

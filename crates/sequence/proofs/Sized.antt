@@ -32,8 +32,8 @@ use Rattle.stage.specs.Matrices.{edits1, edits2, combine, viewportEntry}
 use Rattle.stage.specs.Load.{fogPair, settled, sharedBy, vertexRow, loadEdits, loadLent, loadPlan}
 use Rattle.stage.specs.Draw.{triangle, runEdit, drawPlan}
 use Rattle.stage.proofs.RowEntries.{length-rows, row-at}
-use Rattle.sequence.specs.Sequence.{Command, matrix, force, pop, viewport, geometry, texture, fog, number, light, lookat, microcode, load, cull, depth, modify, draw, ink, Areas, Port, book, loadOf, plan}
-use Rattle.sequence.proofs.Accepts.{Accepted, Fit, on-combine, on-matrix, on-force, on-pop, on-viewport, on-load, on-modify, on-cull, on-depth, on-ink, on-draw}
+use Rattle.sequence.specs.Sequence.{Command, matrix, force, pop, viewport, geometry, texture, fog, number, light, lookat, microcode, load, cull, explain, depth, modify, draw, ink, Areas, Port, book, loadOf, plan}
+use Rattle.sequence.proofs.Accepts.{Accepted, Fit, on-combine, on-matrix, on-force, on-pop, on-viewport, on-load, on-modify, on-cull, on-explain, on-depth, on-ink, on-draw}
 use Rattle.sequence.proofs.Quiet.{on-geometry, on-texture, on-fog, on-number, on-light, on-lookat, on-microcode}
 
 -- ---- widths
@@ -351,6 +351,7 @@ module _ (p : Port) (h : Fits p) where
   sized-plan F limit (microcode to) = on-microcode (Sizes p) (λ _ _. all-kept) (p .state) to
   sized-plan F limit (load first count bytes at) = sized-load (F (p .state .microcode)) (limit (p .state)) first count bytes at
   sized-plan F limit (cull first last) = on-cull (Sizes p) (limit (p .state)) (p .state) first last (λ _ _ _. all-kept)
+  sized-plan F limit (explain first last) = on-explain (Sizes p) (limit (p .state)) (p .state) first last (λ _ _ _. all-kept)
   sized-plan F limit (depth slot threshold) = on-depth (Sizes p) (limit (p .state)) (p .state) slot threshold (λ _ _. all-kept)
   sized-plan F limit (modify slot attribute value) = sized-modify (limit (p .state)) slot attribute value
   sized-plan F limit (draw a b c material mode colour prim) = sized-draw (F (p .state .microcode)) (limit (p .state)) a b c (material ∷ mode ∷ colour ∷ prim ∷ []) refl

@@ -18,7 +18,7 @@ use Rattle.stage.specs.Matrices.{matrixPlan, forcePlan, popPlan, viewportPlan, 
 use Rattle.stage.specs.Lights.{texturePlan, fogPlan, numberPlan, lightPlan, lookatPlan, microcodePlan}
 use Rattle.stage.specs.Load.{LoadTables, loadPlan}
 use Rattle.stage.specs.Modify.{modifyPlan, inkPlan}
-use Rattle.stage.specs.Draw.{cullPlan, depthPlan, drawPlan}
+use Rattle.stage.specs.Draw.{cullPlan, explainPlan, depthPlan, drawPlan}
 
 -- every public command but opening, with its arguments; data is bytes and the place from which they are read
 pub data Command : Type 0 where
@@ -44,6 +44,7 @@ pub data Command : Type 0 where
   load : ℕ → ℕ → List ℕ → ℕ → Command
   -- first, last
   cull : ℕ → ℕ → Command
+  explain : ℕ → ℕ → Command
   -- slot, threshold
   depth : ℕ → ℕ → Command
   -- slot, attribute, value
@@ -118,6 +119,7 @@ plan F limit (lookat slot bytes at) k = lookatPlan (k .state) slot bytes at
 plan F limit (microcode to) k = microcodePlan (k .state) to
 plan F limit (load first count bytes at) k = loadPlan (F (k .state .microcode)) (limit (k .state)) (k .state) (loadOf k) first count bytes at
 plan F limit (cull first last) k = cullPlan (limit (k .state)) (k .state) first last
+plan F limit (explain first last) k = explainPlan (limit (k .state)) (k .state) first last
 plan F limit (depth slot threshold) k = depthPlan (limit (k .state)) (k .state) slot threshold
 plan F limit (modify slot attribute value) k = modifyPlan (limit (k .state)) (k .state) (k .scales) (k .rows) slot attribute value
 plan F limit (draw a b c material mode colour prim) k =

@@ -31,6 +31,7 @@ shapes =
     ∷ (0x10, taking 7 false)
     ∷ (0x11, taking 1 false)
     ∷ (0x12, taking 1 false)
+    ∷ (0x14, taking 2 false)
     ∷ (0x20, taking 2 false)
     ∷ (0x21, taking 0 false)
     ∷ (0x22, taking 3 false)

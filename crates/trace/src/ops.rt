@@ -38,6 +38,8 @@ pub const UCODE: u8 = 0x11;
 
 pub const INK: u8 = 0x12;
 
+pub const EXPLAIN: u8 = 0x14;
+
 pub const LEND: u8 = 0x20;
 
 pub const MARK: u8 = 0x21;
@@ -74,7 +76,7 @@ pub fn shape_of(op: u8) -> Shape
         INK => taking(1, false),
         MATRIX | LIGHT => taking(1, true),
         LOOKAT => taking(1, true),
-        GEOM | FOG | CULL | LEND => taking(2, false),
+        GEOM | FOG | CULL | EXPLAIN | LEND => taking(2, false),
         DEPTH => taking(2, false),
         LOAD => taking(2, true),
         MODIFY | POKE => taking(3, false),

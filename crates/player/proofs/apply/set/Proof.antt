@@ -3,7 +3,7 @@ use mir.Syntax.{w16}
 use Rattle.layout.proofs.Signed.{handed}
 use Rattle.player.proofs.apply.set.Statement.{statement}
 use Rattle.player.proofs.apply.set.Tie as tie
-use Rattle.player.proofs.Applied.{set-geometry, set-texture, set-fog, set-number, set-light, set-lookat, set-cull, set-depth, set-microcode, set-poked, set-rest}
+use Rattle.player.proofs.Applied.{set-geometry, set-texture, set-fog, set-number, set-light, set-lookat, set-cull, set-depth, set-microcode, set-explain, set-poked, set-rest}
 
 modify-geometry-mode-requires : tie.Need-modify-geometry-mode-requires
 modify-geometry-mode-requires c κs = tt
@@ -38,6 +38,9 @@ branch-z-requires c κs = tt
 microcode-requires : tie.Need-microcode-requires
 microcode-requires c κs = tt
 
+explain-cull-requires : tie.Need-explain-cull-requires
+explain-cull-requires c κs = tt
+
 poked-requires : tie.Need-poked-requires
 poked-requires c κs = tt
 
@@ -69,10 +72,13 @@ returns-9 : tie.Need-returns-9
 returns-9 c = set-microcode _ _ _ (c .microcode .result) (c .before .match .keys9) (c .microcode .ensures)
 
 returns-10 : tie.Need-returns-10
-returns-10 c = set-poked _ _ _ _ (c .before .match .keys10) (c .poked .ensures)
+returns-10 c = set-explain _ _ _ (c .explain-cull .result) (c .before .match .keys10) (c .explain-cull .ensures)
 
 returns-11 : tie.Need-returns-11
-returns-11 c = set-rest _ _ _ (c .match .rest)
+returns-11 c = set-poked _ _ _ _ (c .before .match .keys11) (c .poked .ensures)
+
+returns-12 : tie.Need-returns-12
+returns-12 c = set-rest _ _ _ (c .match .rest)
 
 pub set-spec : {M : Type 1} → statement M
 set-spec =
@@ -89,6 +95,7 @@ set-spec =
     cull-display-list-requires
     branch-z-requires
     microcode-requires
+    explain-cull-requires
     poked-requires
     returns
     returns-2
@@ -100,4 +107,5 @@ set-spec =
     returns-8
     returns-9
     returns-10
-    returns-11)
+    returns-11
+    returns-12)

@@ -74,7 +74,7 @@ returns-6 c = takes 1 true 11 [] _ _ (c .taking6 .ensures) (refl, tt) (c .before
 
 returns-7 : tie.Need-returns-7
 unfolding shapeOf pick
-returns-7 c = takes 2 false 5 (8 ∷ 13 ∷ 32 ∷ []) _ _ (c .taking7 .ensures) (refl, (refl, (refl, (refl, tt)))) (c .before .match .keys7)
+returns-7 c = takes 2 false 5 (8 ∷ 13 ∷ 20 ∷ 32 ∷ []) _ _ (c .taking7 .ensures) (refl, (refl, (refl, (refl, (refl, tt))))) (c .before .match .keys7)
 
 returns-8 : tie.Need-returns-8
 unfolding shapeOf pick
