@@ -99,14 +99,60 @@ EDITS = (
      "            raise Refused(3, k)\n"
      "        if s.slots[k].code is None:\n"
      "            raise Refused(4, k)\n"
-     "        common &=",
+     "        codes.append(",
      "        if s.slots[k].loaded and s.slots[k].code is None:\n"
      "            raise Refused(4, k)\n"
      "    for k in range(first, final + 1):\n"
      "        if not s.slots[k].loaded:\n"
      "            raise Refused(3, k)\n"
-     "        common &=",
+     "        codes.append(",
      "cull: every 4 before any 3"),
+    (MODEL, "found.index(None)) if", "3 - found[::-1].index(None)) if", "explain: the highest plane named"),
+    (MODEL, "found.index(None)) if", "found.index(None) + 1) if", "explain: planes counted from 1"),
+    (MODEL, "found.index(None)) if", "1 << found.index(None)) if", "explain: the plane's bit for its number"),
+    (MODEL, "found.index(None)) if", "found.index(None), *found) if", "explain: slots told with yes"),
+    (MODEL, "(1, found.index(None)) if None in found else (0, *found)",
+     "(0, found.index(None)) if None in found else (1, *found)", "explain: yes and no exchanged"),
+    (MODEL, "if None in found else (0, *found)", "if None in found else (0,)", "explain: no reason with no"),
+    (MODEL, "if None in found else (0, *found)", "if None in found else (0, *found[::-1])", "explain: the planes from the highest"),
+    (MODEL, "if None in found else (0, *found)", "if None in found else (0, *[max(found)] * 4)", "explain: one slot for all planes"),
+    (MODEL, "(first + k for k,", "(first + k + 1 for k,", "explain: a slot one further"),
+    (MODEL, "(first + k for k,", "(k for k,", "explain: slots counted from the first"),
+    (MODEL, "(first + k for k,", "(first + k & 127 for k,", "explain: a slot of 7 bits"),
+    (MODEL, "in enumerate(codes) if not code >>", "in enumerate(codes[:-1] or codes) if not code >>", "explain: the last slot left out"),
+    (MODEL, "in enumerate(codes) if not code >>", "in list(enumerate(codes))[1:] if not code >>", "explain: the first slot left out"),
+    (MODEL, "in enumerate(codes) if not code >>", "in reversed(list(enumerate(codes))) if not code >>", "explain: the last slot that is not outside"),
+    (MODEL, "if not code >> plane & 1), None)", "if code >> plane & 1), None)", "explain: slots outside looked for"),
+    (MODEL, "if not code >> plane & 1), None)", "if not code >> (plane ^ 1) & 1), None)", "explain: a plane taken for the one across"),
+    (MODEL, "if not code >> plane & 1), None)", "if not code >> (plane ^ 2) & 1), None)", "explain: x taken for y"),
+    (MODEL, "if not code >> plane & 1), None)", "if code & 15 == 0), None)", "explain: slots that are outside no plane"),
+    (MODEL, "for plane in range(4)]", "for plane in range(6)]", "explain: near and far told too"),
+    (MODEL, "for plane in range(4)]\n",
+     "for plane in range(6)]\n    found = found if None in found else found[:4]\n", "explain: yes by near and far too"),
+    (MODEL, "for plane in range(4)]", "for plane in range(3)]", "explain: the top plane forgotten"),
+    (MODEL,
+     "    codes = codes_of(s, *args)\n    found",
+     "    codes, common = [], 15\n"
+     "    for k in range(args[0], args[1] + 1) if args[1] < 256 else ():\n"
+     "        codes += codes_of(s, k, k)\n"
+     "        common &= codes[-1]\n"
+     "        if not common:\n"
+     "            break\n"
+     "    codes = codes or codes_of(s, *args)\n"
+     "    found",
+     "explain: judged up to where no is certain"),
+    (MODEL, "    codes = codes_of(s, *args)\n    found",
+     "    codes = [s.slots[k].code or 0 for k in range(args[0], args[1] + 1)]\n    found", "explain: never refused"),
+    (MODEL, "    codes = codes_of(s, *args)\n    found",
+     "    judge_lent(s, areas, 7)\n    codes = codes_of(s, *args)\n    found", "explain: table 7 judged"),
+    (MODEL, "    codes = codes_of(s, *args)\n    found",
+     "    codes = codes_of(s, *args)\n    s.slots[args[0]].drawn = True\n    found", "explain: a slot marked drawn"),
+    (MODEL, "    codes = codes_of(s, *args)\n    found",
+     "    codes = codes_of(s, *args)\n    s.slots[args[0]].drawn = False\n    found", "explain: a drawn mark lost"),
+    (MODEL, "    codes = codes_of(s, *args)\n    found",
+     "    codes = codes_of(s, *args)\n    s.slots[args[1]].loaded = False\n    found", "explain: the last slot unloaded"),
+    (MODEL, "            judge_state(self.state)\n",
+     "            if op.name != 'explain':\n                judge_state(self.state)\n", "explain: the state not judged"),
     (MODEL, "s.slots[slot].depth <= threshold / 65536", "s.slots[slot].depth < threshold / 65536", "depth test: below"),
     (MODEL, "s.slots[slot].depth <= threshold / 65536",
      "s.slots[slot].depth <= f32(threshold / 65536)", "depth test: rounded threshold"),
