@@ -1,8 +1,10 @@
 """Faults put into the model one at a time: a stored list that notices none of one's effects is too weak.
 
-Each is a file, what stands there, what is put in its place, and the fault in words.
+Each is a file, what stands there, what is put in its place, and the fault in words. So are those of ../replay and of what
+shows answers in words, with the check of commands.py that has to notice them.
 """
 MODEL, FLOATS = "model.py", "floats.py"
+REPLAY, SHOW, SENTENCES = "replay", "show.py", "sentences.py"
 EDITS = (
     (MODEL, "1 <= s.depth <= 32", "1 <= s.depth <= 33", "depth 33 accepted"),
     (MODEL, "1 <= s.depth <= 32", "0 <= s.depth <= 32", "depth 0 accepted"),
@@ -288,4 +290,41 @@ EDITS = (
      "    near = ctypes.c_float(x).value\n"
      '    return struct.unpack("<f", struct.pack("<I", bits32(near) - 1))[0] if abs(near) > abs(x) else near',
      "rounded toward zero"),
+)
+IN_COMMANDS = (
+    (REPLAY, "    usage >&2\n", "    usage\n", "usage", "usage on standard output"),
+    (REPLAY, "    usage >&2\n    exit 2\n", "    usage >&2\n    exit 1\n", "usage", "status 1 without arguments"),
+    (REPLAY, "    help\n", "    help >&2\n", "usage", "help on standard error"),
+    (REPLAY, "-h | --help)", "--help)", "usage", "no -h"),
+    (REPLAY, "    help\n    exit\n", "    build\n    help\n    exit\n", "usage", "help only where there is a kit"),
+    (REPLAY, 'if [ -d "$file" ] || [ ! -r "$file" ]; then', 'if [ ! -r "$file" ]; then', "unreadable", "a folder read as a file"),
+    (REPLAY, "sed -u -n", "sed -n", "build", "progress held back"),
+    (REPLAY, '    need rt "', '    : "', "build", "a missing kit not told"),
+    (REPLAY, '        tail -n 20 "$log" >&2\n', "", "build", "not told what was not proved"),
+    (REPLAY, 'could not be proved and built" >&2\n        return 1', 'could not be proved and built" >&2', "build", "replayed though not proved"),
+    (REPLAY, '    run_on "$1" "${command[@]}"\n', '    local all\n    all=$("${command[@]}" <"$1")\n    printf \'%s\\n\' "$all"\n', "good", "the output captured"),
+    (REPLAY, "trap 'rm -rf \"$room\"' EXIT\n", "", "good", "a folder left behind"),
+    (REPLAY, '"$answer" "$file" || status=1', '"$answer" "$file" || exit 1', "broken", "files after a broken one not replayed"),
+    (REPLAY, '"$answer" "$file" || status=1', '"$answer" "$file" || true', "broken", "status 0 for a broken one"),
+    (REPLAY, '"$answer" "$file" || status=1', 'status=0; "$answer" "$file" || status=1', "broken", "the last file's status alone"),
+    (REPLAY, "printf 'replay: %s: %s\\n' \"$file\" ", "printf 'replay: %s\\n' ", "broken", "the file not named"),
+    (REPLAY, '"${line#replay: }"', '"$line"', "failing", "'replay: ' twice"),
+    (REPLAY, '    if [ "$ended" -eq 141 ]; then exit 141; fi\n', "", "failing", "a reader that has gone taken for a failure"),
+    (REPLAY, '    if [ "$ended" -ne 0 ] && [ -z "$said" ]; then said="the program ended with status $ended"; fi\n', "", "failing", "a failure not told"),
+    (REPLAY, 'if [ "$answer" = in_words ]; then need python3', 'if false; then need python3', "words", "a missing Python not told"),
+    (REPLAY, '    if [ "$status" -eq 1 ] && [ ! -s "$room/output" ]; then return 1; fi\n', "", "words", "two sentences on one file"),
+    (REPLAY, '--answers "$room/output" "$1" || status=1', '--answers "$room/output" "$1" || true', "words", "an output that does not fit passed over"),
+    (REPLAY, '3>"$room/output" || status=1', '3>"$room/output" || true', "words", "a cut trace passed over in words"),
+    (SHOW, "        return refused(path, fault)\n    except sentences.Unfit", "        raise\n    except sentences.Unfit", "show", "no sentence on what is no trace"),
+    (SHOW, "    if fault:\n", "    if False:\n", "show", "a cut script shown as a whole one"),
+    (SHOW, 'sys.stdin.buffer.read() if path == "-" else ', "", "show", "standard input not read"),
+    (SHOW, "    except sentences.Unfit as fault:\n        return refused", "    except sentences.Unfit as fault:\n        shown = []\n        refused", "misfits", "status 0 for a misfit"),
+    (SENTENCES, "if given != len(ops):", "if given < len(ops):", "misfits", "more answers than commands"),
+    (SENTENCES, r'if not re.search(r"\narea 9 [0-9]+\n\Z", output):', "if False:", "misfits", "a cut dump"),
+    (SENTENCES, r'rf"{k} {op.name}((?: [0-9]+)+)"', r'rf"[0-9]+ {op.name}((?: [0-9]+)+)"', "misfits", "an answer's place not looked at"),
+    (SENTENCES, r'rf"{k} {op.name}((?: [0-9]+)+)"', r'rf"{k} [a-z]+((?: [0-9]+)+)"', "misfits", "an answer's name not looked at"),
+    (SENTENCES, "if number not in NUMBERS[op.name] or not", "if not", "misfits", "refusals of other commands"),
+    (SENTENCES, "if number not in NUMBERS[op.name] or not fits(op, *values):", "if number not in NUMBERS[op.name]:", "misfits", "any values"),
+    (SENTENCES, "values[1] < len(PLANES)", "values[1] < 6", "misfits", "planes past the fourth"),
+    (SENTENCES, " and all(k in asked(op) for k in values[1:])", "", "misfits", "slots outside the range"),
 )

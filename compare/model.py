@@ -668,5 +668,14 @@ def answers(script):
     return "\n".join(lines) + "\n"
 
 
+def main():
+    script = sys.stdin.buffer.read()
+    served, fault = tracefile.fault(script)
+    if served:
+        sys.stdout.write(answers(script))
+    if fault:
+        print(f"replay: {fault}", file=sys.stderr)
+
+
 if __name__ == "__main__":
-    sys.stdout.write(answers(sys.stdin.buffer.read()))
+    main()

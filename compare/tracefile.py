@@ -97,11 +97,28 @@ def read_ops(reader):
     return ops, None
 
 
+def read_lengths(reader):
+    """The lengths of the ten areas."""
+    return read_header(reader)[1][:len(WIDTHS)]
+
+
 def read(script):
     """(lengths of the ten areas, commands)."""
     reader = Reader(script)
-    _, lengths = read_header(reader)
-    return lengths[:len(WIDTHS)], read_ops(reader)[0]
+    return read_lengths(reader), read_ops(reader)[0]
+
+
+def fault(script):
+    """(whether a driver serves the script, what is wrong with it in words, or None)."""
+    reader = Reader(script)
+    try:
+        if len(script) > MOST_BYTES:
+            raise Unfit(f"longer than {MOST_BYTES} bytes")
+        if any(n > most for n, most in zip(read_lengths(reader), BOUNDS)):
+            raise Unfit("it asks for an area over its bound")
+    except Unfit as found:
+        return False, str(found)
+    return True, read_ops(reader)[1]
 
 
 def put(op):
