@@ -319,7 +319,8 @@ EXPLAINED = {
                           explained(3, "2 1 0", "2 0 256", "2 256 256", "2 257 256", "2 0 4294967295", "2 4294967295 0", "0 1 1")),
     "explain-last-slots": (START + [placed(253, 8, 9, 2)] + explain((255, 255), (254, 254), (253, 254), (254, 255), (253, 255), (255, 256), (252, 255)),
                            explained(3, "0 1 1", "0 1 0", "0 1 3", "0 0 255 254 254 255", "0 0 253 253 253 255", "2 255 256", "3 252")),
-    "explain-all-slots": (START + [placed(0, *[5] * 256)] + explain((0, 255)) + [placed(255, 6)] + explain((0, 255)) + [placed(128, 8)] + explain((0, 255), (127, 129)),
+    "explain-all-slots": (START + [placed(0, *[5] * 256)] + explain((0, 255)) + [placed(255, 6)] + explain((0, 255)) + [placed(128, 8)] +
+                          explain((0, 255), (127, 129)),
                           explained(3, "0 1 0") + explained(5, "0 1 2") + explained(7, "0 0 128 0 128 0", "0 0 128 127 128 127")),
     "explain-after-microcode": (START + [placed(0, 2, 2)] + explain((0, 1)) + [op("ucode", 1)] + explain((0, 1), (1, 1)) + [placed(0, 2)] + explain((0, 1), (0, 0)),
                                 explained(3, "0 1 1") + explained(5, "3 0", "3 1") + explained(8, "3 1", "0 1 1")),

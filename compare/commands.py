@@ -24,12 +24,12 @@ WAITS = 'n=0; while [ ! -e "{go}" ] && [ $n -lt 400 ]; do sleep 0.05; n=$((n + 1
 HEADER = tracefile.write(cases.ROOMY, [])
 GOOD = tracefile.write(cases.ROOMY, cases.DRAWN + cases.explain((0, 2), (0, 3)))
 # Files that are no trace, and files that are one up to some op.
-NO_TRACE = {"empty": b"", "letters": b"GST0" + GOOD[4:], "text": b"a text, and no trace at all, of more than 44 bytes", "cut-header": GOOD[:43], "cut-letters": b"GST",
-            "cut-second": tracefile.write(cases.ROOMY, [], 0)[:59], "bound": HEADER[:4] + b"\1\x20\0\0" + HEADER[8:],
+NO_TRACE = {"empty": b"", "letters": b"GST0" + GOOD[4:], "text": b"a text, and no trace at all, of more than 44 bytes", "cut-letters": b"GST",
+            "cut-header": GOOD[:43], "cut-second": tracefile.write(cases.ROOMY, [], 0)[:59], "bound": HEADER[:4] + b"\1\x20\0\0" + HEADER[8:],
             "long": GOOD + bytes(tracefile.MOST_BYTES + 1 - len(GOOD))}
-CUT = {"cut-argument": GOOD[:-1], "cut-op": GOOD + b"\x0d\0\0", "no-op": GOOD + b"\x13" + GOOD[44:], "zero": GOOD + b"\0", "cut-data": GOOD + b"\3\x40\0\0\0" + bytes(63),
-       "no-op-first": HEADER + b"\xff"}
-
+CUT = {"cut-argument": GOOD[:-1], "cut-op": GOOD + b"\x0d\0\0", "cut-data": GOOD + b"\3\x40\0\0\0" + bytes(63), "no-op": GOOD + b"\x1f" + GOOD[44:],
+       "zero": GOOD + b"\0", "no-op-first": HEADER + b"\xff"}
+SHOWN_TOO = ("long", "bound")          # what no driver serves and show.py shows
 NOT_CULLED = "not culled: the first slot that is not outside the left plane is 0, the right 0, the bottom 0, the top 0"
 
 
@@ -205,9 +205,11 @@ def check_words(checks, place):
     status, out, said = place.run("--words", good)
     lines = out.decode().split("\n")
     checks.expect(status == 0 and not of_progress(said) and lines[0] == str(good), "--words")
-    checks.expect(lines[-5:] == ["6 explain first=0 last=2", "    " + NOT_CULLED, "7 explain first=0 last=3", "    refused (3): slot 3 is not loaded", ""], "--words has answers")
+    checks.expect(lines[-5:-1] == ["6 explain first=0 last=2", "    " + NOT_CULLED, "7 explain first=0 last=3", "    refused (3): slot 3 is not loaded"],
+                  "--words has answers")
     status, both, said = place.run("--words", bad, cut, good)
-    checks.expect(status == 1 and len(named_in(said, bad)) == len(named_in(said, cut)) == 1 and len(of_progress(said)) == 2, f"--words, no trace and a cut one: {said}")
+    checks.expect(status == 1 and len(named_in(said, bad)) == len(named_in(said, cut)) == 1 and len(of_progress(said)) == 2,
+                  f"--words, no trace and a cut one: {said}")
     checks.expect(both.endswith(out) and both.startswith(str(cut).encode()) and b"the script ends here: " in both, "--words shows what comes before the cut")
     status, _, said = place.run("--words", good, tools="without-python")
     checks.expect(status == 1 and said.startswith("replay: there is no python3 on the PATH"), f"--words without Python: {said}")
@@ -231,9 +233,10 @@ def misfits(text):
                 ("no dump", text.partition("open 1")[0]), ("a cut dump", text[:-20]), ("no last line's end", text[:-1]), ("another trace's", model.answers(HEADER)),
                 ("a sentence", "replay: the header is cut short\n"))
     yield from ((line, instead(k, line)) for k, line in (
-        (1, "1 force 0 0"), (1, "2 matrix 0 0"), (1, "1 matrix 0"), (1, "1 matrix 0 17"), (1, "1 matrix 0 x"), (1, "1 matrix 6 0"), (1, "1 matrix"), (2, "2 load 0 2"),
-        (2, "2 load 1 1 1"), (5, "5 draw 6 3"), (5, "5 draw 0 0"), (5, "5 draw 11"), (5, "5 draw 8 10"), (6, "6 explain 0"), (6, "6 explain 0 1 4"), (6, "6 explain 0 0 0 0 0 3"),
-        (6, "6 explain 0 0 0 0 0"), (6, "6 explain 0 2 0"), (6, "6 explain 2 0 3"), (6, "6 explain 3 3"), (6, "6 explain 8 1"), (6, "6 cull 0 0"), (6, " 6 explain 0 1 1")))
+        (1, "1 force 0 0"), (1, "2 matrix 0 0"), (1, "1 matrix 0"), (1, "1 matrix 0 17"), (1, "1 matrix 0 x"), (1, "1 matrix 6 0"), (1, "1 matrix"),
+        (2, "2 load 0 2"), (2, "2 load 1 1 1"), (5, "5 draw 6 3"), (5, "5 draw 0 0"), (5, "5 draw 11"), (5, "5 draw 8 10"), (6, "6 explain 0"),
+        (6, "6 explain 0 1 4"), (6, "6 explain 0 0 0 0 0 3"), (6, "6 explain 0 0 0 0 0"), (6, "6 explain 0 2 0"), (6, "6 explain 2 0 3"), (6, "6 explain 3 3"),
+        (6, "6 explain 8 1"), (6, "6 cull 0 0"), (6, " 6 explain 0 1 1")))
 
 
 def check_show(checks, place):
@@ -241,13 +244,16 @@ def check_show(checks, place):
     status, plain, said = shown(place, good)
     checks.expect((status, said) == (0, "") and plain.startswith(f"{good}\nareas ") and plain.endswith("\n7 explain first=0 last=3\n"), "show FILE")
     status, text, said = shown(place, "--answers", output, good)
-    checks.expect((status, said) == (0, "") and [each for each in text.split("\n") if not each.startswith("    ")] == plain.split("\n"), "show --answers has the commands")
+    commands = [each for each in text.split("\n") if not each.startswith("    ")]
+    checks.expect((status, said) == (0, "") and commands == plain.split("\n"), "show --answers has the commands")
     checks.expect(shown(place, "--answers", "-", good, given=output.read_bytes()) == (0, text, ""), "show --answers - reads standard input")
-    for name, script in {**NO_TRACE, **CUT}.items():
+    for name, script in NO_TRACE.items():
         path = place.put(f"{name}.trace", script)
-        if name != "long" and name != "bound":
-            status, text, said = shown(place, path)
-            checks.expect("the script ends here: " in text and status == 0 if name in CUT else (status, text) == (1, "") and f"show: {path}: " in said, f"show, {name}")
+        status, text, said = shown(place, path)
+        checks.expect(name in SHOWN_TOO or (status, text) == (1, "") and said.startswith(f"show: {path}: "), f"show, {name}")
+    for name, script in CUT.items():
+        status, text, said = shown(place, place.put(f"{name}.trace", script))
+        checks.expect(status == 0 and "\nthe script ends here: " in text, f"show, {name}")
     for args in (("--answers", place.root / "nosuch", good), (place.root / "nosuch",), ("--answers", output, good, good)):
         checks.expect(shown(place, *args)[0] in (1, 2) and "Traceback" not in shown(place, *args)[2], f"show {args}")
 
@@ -267,6 +273,8 @@ def check_built(checks, place):
     place.kit("", guide=subprocess.run(["rt", "doc"], capture_output=True, text=True, check=True).stdout.strip())
     shutil.copy(BUILT, place.root / "target" / "bin" / "replay")
     check_broken(checks, place, "the program")
+    status, out, said = place.run("--words", place.put("good.trace", GOOD))
+    checks.expect(status == 0 and f"\n    {NOT_CULLED}\n".encode() in out and not of_progress(said), f"the program in words: {said}")
 
 
 CHECKS = (check_usage, check_unreadable, check_good, check_broken, check_failing, check_build, check_words, check_show, check_misfits)
