@@ -96,6 +96,11 @@ def vertex(rng, colours):
     return struct.pack(">6h", *numbers) + rng.choice(colours)
 
 
+def placed(rng, position, colours):
+    """A vertex at a given place."""
+    return struct.pack(">6h", *position, 0, half(rng, 2000), half(rng, 2000)) + rng.choice(colours)
+
+
 def viewport(rng):
     plain = rng.random() < 0.4
     return struct.pack(">8h", *((640, 480, 511, 0) * 2 if plain else [half(rng, 700) for _ in range(8)]))

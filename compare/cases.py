@@ -1,4 +1,4 @@
-"""Fifteen cases and the limits as traces, each with lines that the rules ask of the output."""
+"""Cases and limits as traces, each with lines that the rules ask of the output."""
 import struct
 
 import bytes_of
@@ -44,6 +44,11 @@ def matrix(flags, numbers):
 
 def force(numbers):
     return op("force", data=bytes_of.matrix(numbers))
+
+
+def placed(first, *codes):
+    """A load of points that have these clip codes where w is 1. Where it is -1 a bit stands for all but the one of the plane across."""
+    return load(first, *[[2 * (code >> axis + 1 & 1) - 2 * (code >> axis & 1) for axis in (0, 2, 4)] for code in codes])
 
 
 def pushes(n):
@@ -277,17 +282,71 @@ ACTS = {
     "pokes-by-low-bits": (DRAWN + [op("poke", 0, 0, 2), op("geom", 0, 0), op("poke", 0, 0, 3), op("geom", 0, 0), op("poke", 4, 0x103, 2),
                                    op("draw", 3, 3, 3, *DRAW)], ["7 geom 10", "9 geom 0", "11 draw 0", "t8 3 2", "slot 3 2 0 1 - -"]),
 }
-ALL = {**{name: (ROOMY, *case) for name, case in (CASES | ROUNDED | ORDER | ACTS).items()}, **TIGHT}
 
 
-def made_for(*requests):
-    """What a second header has beside the areas' lengths: the word of requests, three lengths."""
-    return sum(1 << k - 1 for k in requests), (512, 2304, 1024)
+def explain(*ranges):
+    return [op("explain", *each) for each in ranges]
 
 
+def explained(first, *answers):
+    """The answers to explain in a row."""
+    return [f"{first + k} explain {each}" for k, each in enumerate(answers)]
+
+
+SPOILT = ((0, 0, 0, 1), (1, 0, 0, 1), (1, 0, 33, 1), (2, 0, 8, 0), (3, 1, 0, 1), (3, 2, 0, 1), *((3, t, 1048577, 1) for t in (1, 2, 3)),
+          (3, 7, 1048577, 3), (3, 9, 1048577, 0))
+TURNED = START[:1] + [matrix(2, bytes_of.diagonal(1, 1, 1, -1))]
+# Why a range of slots is culled or not, by its first slot and its last.
+EXPLAINED = {
+    # All four planes have slot 100 outside; one after the other drops out, and at last none is left.
+    "explain-each-plane": (TURNED + [placed(100, 0, 1 << 1, 1 << 0, 1 << 3, 1 << 2)] + explain(*((100, 100 + k) for k in range(5)), (101, 104), (104, 104)),
+                           [f"slot 10{k} {k} 1 0 {63 - (1 << k >> 1)} {F64(0.0)}" for k in range(5)] +
+                           explained(3, "0 1 0", "0 1 1", "0 1 2", "0 1 3", "0 0 101 102 103 104", "0 0 101 102 103 104", "0 1 0")),
+    "explain-plane-alone": (START + [placed(0, 1, 2, 4, 8)] + explain((0, 0), (1, 1), (2, 2), (3, 3), (0, 3), (0, 1), (2, 3)),
+                            explained(3, "0 1 0", "0 1 1", "0 1 2", "0 1 3", "0 0 1 0 0 0", "0 0 1 0 0 0", "0 0 2 2 3 2")),
+    "explain-lowest-of-two": (START + [placed(7, 10, 10, 42), placed(20, 5, 21, 5), placed(30, 6, 6, 22, 9)] +
+                              explain((7, 9), (20, 22), (30, 32), (30, 33), (33, 33)),
+                              explained(5, "0 1 1", "0 1 0", "0 1 1", "0 0 30 33 33 30", "0 1 0")),
+    "explain-near-and-far": (START + [placed(4, 16, 16, 32, 48, 33, 34)] + explain((4, 5), (6, 6), (6, 7), (8, 8), (8, 9), (4, 9)),
+                             explained(3, *["0 0 4 4 4 4", "0 0 6 6 6 6", "0 0 6 6 6 6", "0 1 0", "0 0 9 8 8 8", "0 0 4 4 4 4"])),
+    # Slot 3 is not loaded and slot 5 has no code, and that no is certain before does not matter.
+    "explain-refused-at-the-end": (START + [placed(0, 0, 0, 0), placed(4, 0)] + far_away(3) + [load(5, (1, 1, 1))] +
+                                   explain((0, 2), (0, 3), (0, 5), (4, 5), (5, 5), (3, 5), (4, 6), (2, 255)),
+                                   explained(15, "0 0 0 0 0 0", "3 3", "3 3", "4 5", "4 5", "3 3", "4 5", "3 3")),
+    "explain-no-code-first": (START + [placed(2, 0)] + far_away(0) + [load(0, (1, 1, 1))] + explain((0, 0), (0, 1), (0, 2), (1, 2), (2, 2)),
+                              explained(14, "4 0", "4 0", "4 0", "3 1", "0 0 2 2 2 2")),
+    "explain-bad-range": (START + [placed(0, 2, 2)] + explain((1, 0), (0, 256), (256, 256), (257, 256), (0, 0xFFFFFFFF), (0xFFFFFFFF, 0), (0, 1)),
+                          explained(3, "2 1 0", "2 0 256", "2 256 256", "2 257 256", "2 0 4294967295", "2 4294967295 0", "0 1 1")),
+    "explain-last-slots": (START + [placed(253, 8, 9, 2)] + explain((255, 255), (254, 254), (253, 254), (254, 255), (253, 255), (255, 256), (252, 255)),
+                           explained(3, "0 1 1", "0 1 0", "0 1 3", "0 0 255 254 254 255", "0 0 253 253 253 255", "2 255 256", "3 252")),
+    "explain-all-slots": (START + [placed(0, *[5] * 256)] + explain((0, 255)) + [placed(255, 6)] + explain((0, 255)) + [placed(128, 8)] +
+                          explain((0, 255), (127, 129)),
+                          explained(3, "0 1 0") + explained(5, "0 1 2") + explained(7, "0 0 128 0 128 0", "0 0 128 127 128 127")),
+    "explain-after-microcode": (START + [placed(0, 2, 2)] + explain((0, 1)) + [op("ucode", 1)] + explain((0, 1), (1, 1)) + [placed(0, 2)] + explain((0, 1), (0, 0)),
+                                explained(3, "0 1 1") + explained(5, "3 0", "3 1") + explained(8, "3 1", "0 1 1")),
+    "explain-not-opened": (explain((0, 0), (1, 0), (0, 256)) + START + explain((0, 0)) + short(0) + [op("open")] + explain((0, 0), (1, 0)),
+                           explained(0, "10", "10", "10") + explained(5, "3 0") + explained(8, "10", "10")),
+    # Each number out of range, with a range that would be refused and one that would not, and then as it was.
+    "explain-state": (START + [placed(0, 2, 2, 2)] + [each for field, index, bad, good in SPOILT for each in
+                                                     (op("poke", field, index, bad), *explain((1, 0), (0, 2)), op("poke", field, index, good))] + explain((0, 2)),
+                      [f"{4 * k + n} explain 10" for k in range(len(SPOILT)) for n in (4, 5)] + [f"{4 * len(SPOILT) + 3} explain 0 1 1"]),
+    # Slots drawn or not, changed, with rows that are gone, and nothing lent.
+    "explain-changes-nothing": (DRAWN + short(*range(10)) + explain((0, 2), (1, 2), (0, 3)) + [op("poke", 4, 0, 99)] + explain((0, 2)),
+                                explained(16, "0 0 0 0 0 0", "0 0 1 1 1 1", "3 3") + explained(20, "0 0 0 0 0 0") +
+                                [*UNTOUCHED, "slot 0 99 1 1 0 " + F64(0.0), "slot 1 1 1 1 0 " + F64(0.0)]),
+    "explain-keeps-drawn": (DRAWN + explain((0, 2)) + [load(3, (0, 0, 1))] + explain((0, 3)) + [op("modify", 1, 0x18, 0x00080008), op("modify", 3, 0x10, 5)] +
+                            explain((1, 3)), explained(6, "0 0 0 0 0 0") + explained(8, "0 0 0 0 0 0") + explained(11, "0 0 1 1 1 1") +
+                            ["slot 1 4 1 0 0 " + F64(0.0), "slot 3 3 1 0 0 " + F64(0.0), "counts 1 1 1 0 0 0 5 3 1"]),
+    "explain-beside-cull": (START + [placed(0, 2, 10, 6, 8)] + [op(name, *each) for each in ((0, 2), (0, 3), (1, 3), (3, 3), (3, 4), (4, 3))
+                                                                for name in ("cull", "explain")],
+                            ["3 cull 0 1", "4 explain 0 1 1", "5 cull 0 0", "6 explain 0 0 0 3 0 0", "7 cull 0 0", "8 explain 0 0 1 3 1 2", "9 cull 0 1",
+                             "10 explain 0 1 3", "11 cull 3 4", "12 explain 3 4", "13 cull 2 4 3", "14 explain 2 4 3"]),
+}
+ALL = {**{name: (ROOMY, *case) for name, case in (CASES | ROUNDED | ORDER | ACTS | EXPLAINED).items()}, **TIGHT}
 # Under GST2.
-SECOND = {**{name: made_for(2, 6, 10) for name in ("14-lit-and-unlit", "15-recoloured", "second-header")},
-          **{name: made_for(2, 6, 9, 10) for name in ("inexact-count", "inexact-not-appended")}}
+SECOND = {**{name: tracefile.made_for(2, 6, 10) for name in ("14-lit-and-unlit", "15-recoloured", "second-header")},
+          **{name: tracefile.made_for(2, 6, 9, 10) for name in ("inexact-count", "inexact-not-appended")},
+          **{name: tracefile.made_for(2, 4, 6, 9, 10) for name in EXPLAINED}}
 
 
 def scripts():
@@ -299,3 +358,13 @@ def missing(name, output):
     """The lines that the rules ask for and the output has not."""
     have = set(output.split("\n"))
     return [line for line in ALL[name][2] if line not in have]
+
+
+# What explain answers in these cases, as show.py says it.
+SENTENCES = (
+    "culled: slot 100 lies outside the left plane (x < -w)",
+    "culled: every slot from 100 to 101 lies outside the right plane (x > w); not so of the left plane",
+    "culled: every slot from 100 to 102 lies outside the bottom plane (y < -w); not so of the left and right planes",
+    "culled: every slot from 100 to 103 lies outside the top plane (y > w); not so of the left, right and bottom planes",
+    "not culled: the first slot that is not outside the left plane is 101, the right 102, the bottom 103, the top 104",
+)

@@ -1,8 +1,10 @@
 """Faults put into the model one at a time: a stored list that notices none of one's effects is too weak.
 
-Each is a file, what stands there, what is put in its place, and the fault in words.
+Each is a file, what stands there, what is put in its place, and the fault in words. So are those of ../replay and of what
+shows answers in words, with the check of commands.py that has to notice them.
 """
 MODEL, FLOATS = "model.py", "floats.py"
+REPLAY, SHOW, SENTENCES = "replay", "show.py", "sentences.py"
 EDITS = (
     (MODEL, "1 <= s.depth <= 32", "1 <= s.depth <= 33", "depth 33 accepted"),
     (MODEL, "1 <= s.depth <= 32", "0 <= s.depth <= 32", "depth 0 accepted"),
@@ -99,14 +101,60 @@ EDITS = (
      "            raise Refused(3, k)\n"
      "        if s.slots[k].code is None:\n"
      "            raise Refused(4, k)\n"
-     "        common &=",
+     "        codes.append(",
      "        if s.slots[k].loaded and s.slots[k].code is None:\n"
      "            raise Refused(4, k)\n"
      "    for k in range(first, final + 1):\n"
      "        if not s.slots[k].loaded:\n"
      "            raise Refused(3, k)\n"
-     "        common &=",
+     "        codes.append(",
      "cull: every 4 before any 3"),
+    (MODEL, "found.index(None)) if", "3 - found[::-1].index(None)) if", "explain: the highest plane named"),
+    (MODEL, "found.index(None)) if", "found.index(None) + 1) if", "explain: planes counted from 1"),
+    (MODEL, "found.index(None)) if", "1 << found.index(None)) if", "explain: the plane's bit for its number"),
+    (MODEL, "found.index(None)) if", "found.index(None), *found) if", "explain: slots told with yes"),
+    (MODEL, "(1, found.index(None)) if None in found else (0, *found)",
+     "(0, found.index(None)) if None in found else (1, *found)", "explain: yes and no exchanged"),
+    (MODEL, "if None in found else (0, *found)", "if None in found else (0,)", "explain: no reason with no"),
+    (MODEL, "if None in found else (0, *found)", "if None in found else (0, *found[::-1])", "explain: the planes from the highest"),
+    (MODEL, "if None in found else (0, *found)", "if None in found else (0, *[max(found)] * 4)", "explain: one slot for all planes"),
+    (MODEL, "(first + k for k,", "(first + k + 1 for k,", "explain: a slot one further"),
+    (MODEL, "(first + k for k,", "(k for k,", "explain: slots counted from the first"),
+    (MODEL, "(first + k for k,", "(first + k & 127 for k,", "explain: a slot of 7 bits"),
+    (MODEL, "in enumerate(codes) if not code >>", "in enumerate(codes[:-1] or codes) if not code >>", "explain: the last slot left out"),
+    (MODEL, "in enumerate(codes) if not code >>", "in list(enumerate(codes))[1:] if not code >>", "explain: the first slot left out"),
+    (MODEL, "in enumerate(codes) if not code >>", "in reversed(list(enumerate(codes))) if not code >>", "explain: the last slot that is not outside"),
+    (MODEL, "if not code >> plane & 1), None)", "if code >> plane & 1), None)", "explain: slots outside looked for"),
+    (MODEL, "if not code >> plane & 1), None)", "if not code >> (plane ^ 1) & 1), None)", "explain: a plane taken for the one across"),
+    (MODEL, "if not code >> plane & 1), None)", "if not code >> (plane ^ 2) & 1), None)", "explain: x taken for y"),
+    (MODEL, "if not code >> plane & 1), None)", "if code & 15 == 0), None)", "explain: slots that are outside no plane"),
+    (MODEL, "for plane in range(4)]", "for plane in range(6)]", "explain: near and far told too"),
+    (MODEL, "for plane in range(4)]\n",
+     "for plane in range(6)]\n    found = found if None in found else found[:4]\n", "explain: yes by near and far too"),
+    (MODEL, "for plane in range(4)]", "for plane in range(3)]", "explain: the top plane forgotten"),
+    (MODEL,
+     "    codes = codes_of(s, *args)\n    found",
+     "    codes, common = [], 15\n"
+     "    for k in range(args[0], args[1] + 1) if args[1] < 256 else ():\n"
+     "        codes += codes_of(s, k, k)\n"
+     "        common &= codes[-1]\n"
+     "        if not common:\n"
+     "            break\n"
+     "    codes = codes or codes_of(s, *args)\n"
+     "    found",
+     "explain: judged up to where no is certain"),
+    (MODEL, "    codes = codes_of(s, *args)\n    found",
+     "    codes = [s.slots[k].code or 0 for k in range(args[0], args[1] + 1)]\n    found", "explain: never refused"),
+    (MODEL, "    codes = codes_of(s, *args)\n    found",
+     "    judge_lent(s, areas, 7)\n    codes = codes_of(s, *args)\n    found", "explain: table 7 judged"),
+    (MODEL, "    codes = codes_of(s, *args)\n    found",
+     "    codes = codes_of(s, *args)\n    s.slots[args[0]].drawn = True\n    found", "explain: a slot marked drawn"),
+    (MODEL, "    codes = codes_of(s, *args)\n    found",
+     "    codes = codes_of(s, *args)\n    s.slots[args[0]].drawn = False\n    found", "explain: a drawn mark lost"),
+    (MODEL, "    codes = codes_of(s, *args)\n    found",
+     "    codes = codes_of(s, *args)\n    s.slots[args[1]].loaded = False\n    found", "explain: the last slot unloaded"),
+    (MODEL, "            judge_state(self.state)\n",
+     "            if op.name != 'explain':\n                judge_state(self.state)\n", "explain: the state not judged"),
     (MODEL, "s.slots[slot].depth <= threshold / 65536", "s.slots[slot].depth < threshold / 65536", "depth test: below"),
     (MODEL, "s.slots[slot].depth <= threshold / 65536",
      "s.slots[slot].depth <= f32(threshold / 65536)", "depth test: rounded threshold"),
@@ -242,4 +290,41 @@ EDITS = (
      "    near = ctypes.c_float(x).value\n"
      '    return struct.unpack("<f", struct.pack("<I", bits32(near) - 1))[0] if abs(near) > abs(x) else near',
      "rounded toward zero"),
+)
+IN_COMMANDS = (
+    (REPLAY, "    usage >&2\n", "    usage\n", "usage", "usage on standard output"),
+    (REPLAY, "    usage >&2\n    exit 2\n", "    usage >&2\n    exit 1\n", "usage", "status 1 without arguments"),
+    (REPLAY, "    help\n", "    help >&2\n", "usage", "help on standard error"),
+    (REPLAY, "-h | --help)", "--help)", "usage", "no -h"),
+    (REPLAY, "    help\n    exit\n", "    build\n    help\n    exit\n", "usage", "help only where there is a kit"),
+    (REPLAY, 'if [ -d "$file" ] || [ ! -r "$file" ]; then', 'if [ ! -r "$file" ]; then', "unreadable", "a folder read as a file"),
+    (REPLAY, "sed -u -n", "sed -n", "build", "progress held back"),
+    (REPLAY, '    need rt "', '    : "', "build", "a missing kit not told"),
+    (REPLAY, '        tail -n 20 "$log" >&2\n', "", "build", "not told what was not proved"),
+    (REPLAY, 'could not be proved and built" >&2\n        return 1', 'could not be proved and built" >&2', "build", "replayed though not proved"),
+    (REPLAY, '    run_on "$1" "${command[@]}"\n', '    local all\n    all=$("${command[@]}" <"$1")\n    printf \'%s\\n\' "$all"\n', "good", "the output captured"),
+    (REPLAY, "trap 'rm -rf \"$room\"' EXIT\n", "", "good", "a folder left behind"),
+    (REPLAY, '"$answer" "$file" || status=1', '"$answer" "$file" || exit 1', "broken", "files after a broken one not replayed"),
+    (REPLAY, '"$answer" "$file" || status=1', '"$answer" "$file" || true', "broken", "status 0 for a broken one"),
+    (REPLAY, '"$answer" "$file" || status=1', 'status=0; "$answer" "$file" || status=1', "broken", "the last file's status alone"),
+    (REPLAY, "printf 'replay: %s: %s\\n' \"$file\" ", "printf 'replay: %s\\n' ", "broken", "the file not named"),
+    (REPLAY, '"${line#replay: }"', '"$line"', "failing", "'replay: ' twice"),
+    (REPLAY, '    if [ "$ended" -eq 141 ]; then exit 141; fi\n', "", "failing", "a reader that has gone taken for a failure"),
+    (REPLAY, '    if [ "$ended" -ne 0 ] && [ -z "$said" ]; then said="the program ended with status $ended"; fi\n', "", "failing", "a failure not told"),
+    (REPLAY, 'if [ "$answer" = in_words ]; then need python3', 'if false; then need python3', "words", "a missing Python not told"),
+    (REPLAY, '    if [ "$status" -eq 1 ] && [ ! -s "$room/output" ]; then return 1; fi\n', "", "words", "two sentences on one file"),
+    (REPLAY, '--answers "$room/output" -- "$1" || status=1', '--answers "$room/output" -- "$1" || true', "words", "an output that does not fit passed over"),
+    (REPLAY, '3>"$room/output" || status=1', '3>"$room/output" || true', "words", "a cut trace passed over in words"),
+    (SHOW, "        return refused(path, fault)\n    except", "        raise\n    except", "show", "no sentence on what is no trace"),
+    (SHOW, "    if fault:\n", "    if False:\n", "show", "a cut script shown as a whole one"),
+    (SHOW, 'sys.stdin.buffer.read() if path == "-" else ', "", "show", "standard input not read"),
+    (SHOW, "return refused(path, f\"the output", "shown = []\n        refused(path, f\"the output", "misfits", "status 0 for a misfit"),
+    (SENTENCES, "if given != len(ops):", "if given < len(ops):", "misfits", "more answers than commands"),
+    (SENTENCES, r'if not re.search(r"\narea 9 [0-9]+\n\Z", output):', "if False:", "misfits", "a cut dump"),
+    (SENTENCES, r'rf"{k} {op.name}((?: [0-9]+)+)"', r'rf"[0-9]+ {op.name}((?: [0-9]+)+)"', "misfits", "an answer's place not looked at"),
+    (SENTENCES, r'rf"{k} {op.name}((?: [0-9]+)+)"', r'rf"{k} [a-z]+((?: [0-9]+)+)"', "misfits", "an answer's name not looked at"),
+    (SENTENCES, "if number not in NUMBERS[op.name] or not", "if not", "misfits", "refusals of other commands"),
+    (SENTENCES, "if number not in NUMBERS[op.name] or not fits(op, *values):", "if number not in NUMBERS[op.name]:", "misfits", "any values"),
+    (SENTENCES, "values[1] < len(PLANES)", "values[1] < 6", "misfits", "planes past the fourth"),
+    (SENTENCES, " and all(k in asked(op) for k in values[1:])", "", "misfits", "slots outside the range"),
 )

@@ -1,12 +1,14 @@
 #!/usr/bin/env python3
 """Makes random traces.
 
-  make.py KIND SEED [--size N] > FILE        one trace of about N commands
-  make.py --batch DIR --from SEED --count N [--kind KIND] [--size N]
+  make.py KIND SEED [--size N] [--plain] > FILE        one trace of about N commands
+  make.py --batch DIR --from SEED --count N [--kind KIND] [--size N] [--plain]
 
 Kinds: domain (REFERENCE 18), numbers (there too: conversions and roundings),
+culled (there too: slots in a row outside the side planes, most of them),
 refusal (bad arguments, short data, short and full areas), forged (state and areas tampered with),
 edge (areas that fit exactly or lack one number).
+Explain is strewn in, at every cull test and elsewhere, and the header is GST2; with --plain neither is so.
 The same kind, seed and size make the same bytes.
 """
 import argparse
@@ -25,6 +27,12 @@ BITS = (LIGHTING, TEXGEN, LINEAR, FOG, FRONT, BACK)
 WORDS = (0, 1, 2, 255, 256, 257, 0x7FFF, 0x8000, 0xFFFF, 0x10000, 0x00FFFFFF, 0x01000001, 0x01000003, 0x7FFFFFFF, 0x80000000,
          0x80000080, 0xFFE00040, 0x0004FFFE, 0xFFFFFF7F, 0xFFFFFF80, 0xFFFFFFFF)
 ALL = 0xFFFFFFFF
+REQUESTS = tracefile.made_for(2, 4, 6, 9, 10)
+
+
+def shared(codes):
+    """Whether one side plane has all of these outside it."""
+    return None not in codes and functools.reduce(int.__and__, codes, 0x0F) != 0
 
 
 class Maker:
@@ -133,6 +141,25 @@ class Maker:
         while last < 255 and self.state.slots[last + 1].loaded and self.rng.random() < 0.8:
             last += 1
         self.do("cull", *self.rng.choice(((first, last),) * 5 + ((first, last + 1), (last + 1, first), (first, 256))))
+
+    def reach(self, first, holds):
+        """The last slot from first on up to which this holds of all codes; first itself where it never does."""
+        last = first
+        while last < 255 and self.state.slots[last + 1].loaded and holds([s.code for s in self.state.slots[first:last + 2]]):
+            last += 1
+        return last
+
+    def ranges(self):
+        """Ranges from a loaded slot on: it alone, as far as one plane has all outside it and one more, as far as there are codes or slots
+        and one more; and ranges that are none, or reach over everything."""
+        first = self.slot(lambda s: s.loaded)
+        tight = self.reach(first, shared)
+        coded, wide = self.reach(first, lambda codes: None not in codes), self.reach(first, lambda codes: True)
+        return [(first, first), (first, tight), (first, min(tight + 1, wide)), (first, coded), (first, coded + 1), (first, wide), (first, wide + 1),
+                (max(first - 1, 0), wide), (wide + 1, first), (first, 256), (0, 255), (first, self.word())]
+
+    def explain(self):
+        self.do("explain", *self.rng.choices(self.ranges(), (2, 4, 4, 3, 2, 3, 2, 1, 1, 1, 0.2, 0.5))[0])
 
     def depth(self):
         hidden = self.rng.random() < 0.1
@@ -275,6 +302,27 @@ def comparable(rng):
 def domain(rng, size, seed):
     m = comparable(rng)
     play(m, len(m.ops) + size, PLAIN + LARGE if size > 40 else PLAIN)
+    m.lengths = fitted(m.state.counts, rng, 3)
+    return m.script()
+
+
+# Slots outside the side planes.
+
+def piece(m):
+    """Slots in a row that lie outside the same planes, one of them seldom not; under no matrix, or one that turns the sides over."""
+    m.do("force", data=bytes_of.matrix(bytes_of.diagonal(1, 1, 1, m.rng.choice((1, 1, 1, -1)))))
+    common = [m.rng.choice((-5, 0, 5)) for _ in range(2)]
+    count = m.rng.choice((1, 2, 3, 3, 5, 8, 20))
+    first = m.rng.choice((0, m.rng.randrange(257 - count), 256 - count))
+    places = [[n if n and m.rng.random() < 0.93 else m.rng.choice((-5, 0, 5)) for n in common + [0]] for _ in range(count)]
+    m.do("load", first, count, data=b"".join(bytes_of.placed(m.rng, place, m.colours) for place in places))
+    for _ in range(m.rng.randint(1, 4)):
+        m.cull()
+
+
+def culled(rng, size, seed):
+    m = comparable(rng)
+    play(m, len(m.ops) + size, PLAIN + ((piece, 15), (Maker.cull, 6), (unseen, 2)))
     m.lengths = fitted(m.state.counts, rng, 3)
     return m.script()
 
@@ -550,17 +598,53 @@ def forged(rng, size, seed):
     return m.script()
 
 
-KINDS = {"domain": domain, "numbers": numbers, "refusal": refusal, "forged": forged, "edge": edge}
+KINDS = {"domain": domain, "numbers": numbers, "culled": culled, "refusal": refusal, "forged": forged, "edge": edge}
 SIZES = (10, 20, 40, 80, 160, 300)
 
 
-def make(kind, seed, size=None):
-    """The bytes of one trace; without a size the seed chooses one."""
+def plain(kind, seed, size=None):
+    """The bytes of one trace as its kind has it; without a size the seed chooses one."""
     rng = random.Random(f"{kind} {seed} {size}")
     script = KINDS[kind](rng, size or rng.choice(SIZES), seed)
     if len(script) > tracefile.MOST_BYTES:
-        return make(kind, seed, 40)
+        return plain(kind, seed, 40)
     return script
+
+
+def played(script, rng):
+    """A maker that goes on where a script ends, and the script's commands one by one while it plays them."""
+    lengths, ops = tracefile.read(script)
+    m = Maker(rng, lengths)
+
+    def steps():
+        for op in ops:
+            m.do(op.name, *op.args, data=op.data)
+            yield op
+
+    return m, steps()
+
+
+def make(kind, seed, size=None):
+    """One trace with explain strewn in: at each cull test by its range, there and elsewhere by others. It changes nothing, so all else fits as before."""
+    m, steps = played(plain(kind, seed, size), random.Random(f"explained {kind} {seed} {size}"))
+    for op in steps:
+        if op.name == "cull":
+            m.do("explain", *op.args)
+        if m.rng.random() < (0.6 if op.name == "cull" else 0.1):
+            m.explain()
+    script = tracefile.write(m.lengths, m.ops, *REQUESTS)
+    return script if len(script) <= tracefile.MOST_BYTES else make(kind, seed, 40)
+
+
+def asked(seed):
+    """(ranges, a trace that ends in a cull test of each, the same with explain for every cull test)."""
+    kind = list(KINDS)[seed % len(KINDS)]
+    m, steps = played(make(kind, seed, 40), random.Random(f"asked {seed}"))
+    before = [(Op("cull", op.args, None) if op.name == "explain" else op) for op in steps]
+    ranges = [each for _ in range(2) for each in m.ranges()]
+    ops = before + [Op("cull", list(each), None) for each in ranges]
+    explained = [(Op("explain", op.args, None) if op.name == "cull" else op) for op in ops]
+    return ranges, *(tracefile.write(m.lengths, each, *REQUESTS) for each in (ops, explained))
 
 
 def batch(args):
@@ -568,7 +652,7 @@ def batch(args):
     folder.mkdir(parents=True, exist_ok=True)
     for kind in [args.kind] if args.kind else KINDS:
         for seed in range(args.first, args.first + args.count):
-            (folder / f"{kind}-{seed}.trace").write_bytes(make(kind, seed, args.size))
+            (folder / f"{kind}-{seed}.trace").write_bytes(args.make(kind, seed, args.size))
 
 
 def main():
@@ -579,11 +663,12 @@ def main():
     parser.add_argument("--count", type=int, default=1)
     parser.add_argument("--kind", choices=KINDS)
     parser.add_argument("--size", type=int)
+    parser.add_argument("--plain", dest="make", action="store_const", const=plain, default=make)
     args = parser.parse_args()
     if args.batch:
         batch(args)
     elif len(args.which) == 2 and args.which[0] in KINDS:
-        sys.stdout.buffer.write(make(args.which[0], int(args.which[1]), args.size))
+        sys.stdout.buffer.write(args.make(args.which[0], int(args.which[1]), args.size))
     else:
         parser.error("a kind and a seed, or --batch")
 

@@ -426,18 +426,36 @@ def do_load(s, areas, args, data):
     return (0 if s.defined else 1,)
 
 
-def do_cull(s, areas, args, data):
-    first, final = args
+def codes_of(s, first, final):
+    """The clip codes of the slots first to final, judged in turn."""
     if first > final or final > 255:
         raise Refused(2, first, final)
-    common = 0x0F
+    codes = []
     for k in range(first, final + 1):
         if not s.slots[k].loaded:
             raise Refused(3, k)
         if s.slots[k].code is None:
             raise Refused(4, k)
-        common &= s.slots[k].code
+        codes.append(s.slots[k].code)
+    return codes
+
+
+def do_cull(s, areas, args, data):
+    common = 0x0F
+    for code in codes_of(s, *args):
+        common &= code
     return (int(common != 0),)
+
+
+def first_not_outside(plane, codes, first):
+    """The first slot that is not outside a plane, None where every one is."""
+    return next((first + k for k, code in enumerate(codes) if not code >> plane & 1), None)
+
+
+def do_explain(s, areas, args, data):
+    codes = codes_of(s, *args)
+    found = [first_not_outside(plane, codes, args[0]) for plane in range(4)]
+    return (1, found.index(None)) if None in found else (0, *found)
 
 
 def do_depth(s, areas, args, data):
@@ -650,5 +668,14 @@ def answers(script):
     return "\n".join(lines) + "\n"
 
 
+def main():
+    script = sys.stdin.buffer.read()
+    served, fault = tracefile.fault(script)
+    if served:
+        sys.stdout.write(answers(script))
+    if fault:
+        print(f"replay: {fault}", file=sys.stderr)
+
+
 if __name__ == "__main__":
-    sys.stdout.write(answers(sys.stdin.buffer.read()))
+    main()

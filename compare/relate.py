@@ -1,4 +1,4 @@
-"""Holds two outputs of one domain trace against each other.
+"""Holds two outputs of one domain trace against each other, and explain against the cull test.
 
 Tables 1 to 3 begin differently on the two sides, so their entries and the numbers that name them are
 taken relative to the last entry at the mark, that one included. All else is compared as it stands;
@@ -167,4 +167,81 @@ def differences(ours, theirs):
         a, b = Output(ours), Output(theirs)
         return [*in_answers(a, b), *in_dump(a, b), *in_corners(a, b)]
     except (Unreadable, KeyError, IndexError, ValueError) as fault:
+        return [f"cannot be compared: {type(fault).__name__} {fault}"]
+
+
+# Explain and the cull test, from outputs of any kind of trace alone: what is true of the slots is read from the dump.
+
+SIDES = range(4)
+
+
+def as_cull(answer):
+    """An answer to explain as the cull test would give it: yes and no without the reason, a refusal as it is."""
+    words = answer.split(" ")
+    return " ".join([words[0], "cull", *(words[2:4] if words[2:3] == ["0"] else words[2:])]) if words[1:2] == ["explain"] else answer
+
+
+def taken_apart(text):
+    """Answers, and the dump as it stands."""
+    answers, end, dump = text.partition("\nend\n")
+    if not end:
+        raise Unreadable("an output without a dump")
+    return answers.split("\n"), dump
+
+
+def clip_codes(dump):
+    """By slot, of those that are loaded; None for one without."""
+    slots = [each.split(" ")[1:] for each in dump.split("\n") if each.startswith("slot ")]
+    return {int(k): None if code == "-" else int(code) for k, _, loaded, _, code, _ in slots if loaded == "1"}
+
+
+def outside(codes, plane, slots):
+    return all(codes[k] >> plane & 1 for k in slots)
+
+
+def is_reason(values, codes, first, last):
+    """Whether these values of a done explain are the reason, by the codes: the lowest plane, or four slots."""
+    verdict, *reason = values
+    if verdict == 1 and len(reason) == 1 and reason[0] in SIDES:
+        every = range(first, last + 1)
+        return outside(codes, reason[0], every) and not any(outside(codes, lower, every) for lower in range(reason[0]))
+    return verdict == 0 and len(reason) == len(SIDES) and all(
+        first <= k <= last and not outside(codes, plane, [k]) and outside(codes, plane, range(first, k)) for plane, k in zip(SIDES, reason))
+
+
+def is_refusal(number, values, codes, first, last):
+    """Whether a range of slots is refused so, the state being sound."""
+    if first > last or last > 255:
+        return (number, values) == (2, [first, last])
+    refused = next((k for k in range(first, last + 1) if codes.get(k) is None), None)
+    return refused is not None and (number, values) == (4 if refused in codes else 3, [refused])
+
+
+def untrue(answer, codes, asked):
+    """Whether an answer to explain is not true of these codes. That a state is not sound, which 10 says, is not seen from them."""
+    number, *values = [int(n) for n in answer.split(" ")[2:]]
+    try:
+        return not (is_refusal(number, values, codes, *asked) if number else is_reason(values, codes, *asked))
+    except (KeyError, TypeError, ValueError):
+        return True
+
+
+def in_reasons(answers, dump, ranges):
+    codes = clip_codes(dump)
+    for answer, asked in zip(answers[-len(ranges):], ranges):
+        if not answer.endswith(" explain 10") and untrue(answer, codes, asked):
+            yield f"'{answer}' is not so of the slots from {asked[0]} to {asked[1]}"
+
+
+def explained(tested, told, ranges):
+    """Every difference between an output with cull tests and one with explain in their place, which ends in one of each range."""
+    try:
+        (first, dump), (second, same) = taken_apart(tested), taken_apart(told)
+        found = [f"'{x}' against '{y}'" for x, y in zip(first, second) if x != as_cull(y)]
+        if len(first) != len(second):
+            found.append(f"{len(first)} answers against {len(second)}")
+        if dump != same:
+            found.append("another dump")
+        return found + list(in_reasons(second, same, ranges))
+    except (Unreadable, IndexError, ValueError) as fault:
         return [f"cannot be compared: {type(fault).__name__} {fault}"]

@@ -33,6 +33,7 @@ OPS = {
     0x10: ("draw", ("a", "b", "c", "material", "mode", "fogcolour", "primdepth"), False),
     0x11: ("ucode", ("which",), False),
     0x12: ("ink", ("colour",), False),
+    0x14: ("explain", ("first", "last"), False),
     0x20: ("lend", ("area", "length"), False),
     0x21: ("mark", (), False),
     0x22: ("poke", ("field", "index", "value"), False),
@@ -48,8 +49,8 @@ class Op:
         self.name, self.args, self.data = name, args, data
 
 
-class Cut(ValueError):
-    """The script ends inside an argument or the header."""
+class Unfit(ValueError):
+    """What stands there is no header or no op, or the script ends inside it."""
 
 
 class Reader:
@@ -58,7 +59,7 @@ class Reader:
 
     def take(self, n):
         if self.at + n > len(self.script):
-            raise Cut
+            raise Unfit(f"cut short at byte {len(self.script)}, where {self.at + n - len(self.script)} more are due")
         piece = self.script[self.at:self.at + n]
         self.at += n
         return piece
@@ -68,34 +69,56 @@ class Reader:
 
 
 def read_op(reader):
-    """The next command, or None where the script ends."""
-    try:
-        code = reader.take(1)[0]
-        if code not in OPS:
-            return None
-        name, names, has_data = OPS[code]
-        args = [reader.u32() for _ in names]
-        return Op(name, args, reader.take(reader.u32()) if has_data else None)
-    except Cut:
-        return None
+    """The next command."""
+    code = reader.take(1)[0]
+    if code not in OPS:
+        raise Unfit(f"byte {reader.at - 1} is {code:#04x}, which is no op")
+    name, names, has_data = OPS[code]
+    args = [reader.u32() for _ in names]
+    return Op(name, args, reader.take(reader.u32()) if has_data else None)
 
 
 def read_header(reader):
     """(words of requests, lengths), as many as the letters say."""
     letters = reader.take(4)
     if letters not in HEADERS:
-        raise ValueError("not a trace")
+        raise Unfit("no trace: it begins with neither GST1 nor GST2")
     return tuple([reader.u32() for _ in range(n)] for n in HEADERS[letters])
+
+
+def read_ops(reader):
+    """(commands, what ended them before the script's end, in words, or None)."""
+    ops = []
+    try:
+        while reader.at < len(reader.script):
+            ops.append(read_op(reader))
+    except Unfit as fault:
+        return ops, str(fault)
+    return ops, None
+
+
+def read_lengths(reader):
+    """The lengths of the ten areas."""
+    return read_header(reader)[1][:len(WIDTHS)]
 
 
 def read(script):
     """(lengths of the ten areas, commands)."""
     reader = Reader(script)
-    _, lengths = read_header(reader)
-    ops = []
-    while (op := read_op(reader)) is not None:
-        ops.append(op)
-    return lengths[:len(WIDTHS)], ops
+    return read_lengths(reader), read_ops(reader)[0]
+
+
+def fault(script):
+    """(whether a driver serves the script, what is wrong with it in words, or None)."""
+    reader = Reader(script)
+    try:
+        if len(script) > MOST_BYTES:
+            raise Unfit(f"longer than {MOST_BYTES} bytes")
+        if any(n > most for n, most in zip(read_lengths(reader), BOUNDS)):
+            raise Unfit("it asks for an area over its bound")
+    except Unfit as found:
+        return False, str(found)
+    return True, read_ops(reader)[1]
 
 
 def put(op):
@@ -111,3 +134,8 @@ def write(lengths, ops, requests=None, others=(0, 0, 0)):
     """The script of a trace; under GST2, with the other lengths, where a word of requests is given."""
     letters, words = (b"GST1", lengths) if requests is None else (b"GST2", [requests, *lengths, *others])
     return letters + struct.pack(f"<{len(words)}I", *words) + b"".join(put(op) for op in ops)
+
+
+def made_for(*requests):
+    """What a second header has beside the areas' lengths: the word of requests, three lengths."""
+    return sum(1 << k - 1 for k in requests), (512, 2304, 1024)

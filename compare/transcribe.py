@@ -7,7 +7,7 @@
   --original CMD                the original's driver (default: what rust/build builds)
 
 Traces are those of transcribed/ unless named. `open` comes first; a trace counts up to the first op that is not the
-original's. `mark` and `ink` are left out, and commands that the original refuses, except the last: it then is the result.
+original's. `mark`, `ink` and `explain` are left out, and commands that the original refuses, except the last: it then is the result.
 The last line of --check is 'N passed, M failed'; the exit code is 0 if nothing failed.
 """
 import argparse
@@ -24,7 +24,7 @@ HERE = pathlib.Path(__file__).resolve().parent
 FOLDER = HERE / "transcribed"
 OUT = HERE.parent / "crates" / "original" / "proofs" / "Traced.antt"
 SECONDS = 60
-LEFT_OUT = ("mark", "ink")
+LEFT_OUT = ("mark", "ink", "explain")
 NOT_THE_ORIGINALS = ("open", "lend", "poke", "write")
 NAN = "7fc00000"      # the pattern that toBits writes
 

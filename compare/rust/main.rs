@@ -111,6 +111,17 @@ fn ink(o: &Original, colour: u32) -> String {
     format!("0 {}", s.indices.iter().filter(|row| inked(**row as usize)).count())
 }
 
+/// The original does not tell why. Yes, no and refusals are its own cull test's; the reason is read from its clip codes.
+fn explain(o: &Original, first: u32, last: u32) -> String {
+    let is_outside = |slot: u32, plane: u32| o.rsp.shown_slot(slot as usize).3.is_some_and(|code| code >> plane & 1 == 1);
+    let not_outside = |plane: u32| (first..=last).find(|slot| !is_outside(*slot, plane));
+    match o.rsp.cull_display_list(first, last) {
+        Err(kind) => refusal(kind),
+        Ok(true) => format!("0 1 {}", dump::words((0..4).find(|plane| not_outside(*plane).is_none()))),
+        Ok(false) => format!("0 0 {}", dump::words((0..4).filter_map(not_outside))),
+    }
+}
+
 fn done(_: ()) -> String {
     "0".into()
 }
@@ -171,6 +182,10 @@ fn step(o: &mut Original, script: &mut Script) -> Option<(&'static str, String)>
             ("ucode", done(o.rsp.switch_microcode(which)))
         }
         0x12 => ("ink", ink(o, script.u32()?)),
+        0x14 => {
+            let [first, last] = script.numbers()?;
+            ("explain", explain(o, first, last))
+        }
         0x20 => ("lend", script.numbers::<2>().map(|_| "0".into())?),
         0x21 => ("mark", format!("0 {}", dump::words(o.counts()))),
         _ => return None,
