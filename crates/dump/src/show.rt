@@ -288,7 +288,10 @@ pub fn stopped(i: usize, at: usize, known: bool) {
     complain(b"op ");
     number_then(i, b", at byte ");
     if known {
-        number_then(at, b", is cut short; it and what follows was not replayed\n");
+        number_then(
+            at,
+            b", is cut short; it and what follows was not replayed\n",
+        );
     } else {
         number_then(at, b", is unknown; it and what follows was not replayed\n");
     }

@@ -36,7 +36,12 @@ fn answer_for(r: Reason) -> Answer
 {
     match r {
         Reason::AllOutside(plane) => Answer::AllOutside(plane),
-        Reason::FirstInside(left, right, bottom, top) => Answer::FirstInside(left, right, bottom, top),
+        Reason::FirstInside(left, right, bottom, top) => Answer::FirstInside(
+            left,
+            right,
+            bottom,
+            top,
+        ),
     }
 }
 

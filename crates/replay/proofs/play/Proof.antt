@@ -88,6 +88,9 @@ shape-of-requires c κs = search needs
 call-at-requires : tie.Need-call-at-requires Inv-loop μ-loop
 call-at-requires c κs = search needs
 
+stopped-requires : tie.Need-stopped-requires Inv-loop μ-loop
+stopped-requires c κs = search needs
+
 sub-step : tie.Need-sub-step Inv-loop μ-loop
 sub-step c = search needs
 
@@ -184,6 +187,7 @@ play-spec =
     shared-slice-read-shape-of
     shape-of-requires
     call-at-requires
+    stopped-requires
     sub-step
     part-step-start
     part-step-end
