@@ -23,15 +23,16 @@ use Rattle.stage.specs.Matrices.{combine, turned, matrixStores, matrixPlan, for
 use Rattle.stage.specs.Load.{settled, settledState, sharedBy, loadEdits, loadPlan}
 use Rattle.stage.specs.Rows.{fillSlot, fillSlots}
 use Rattle.stage.specs.Modify.{asking, changed, changePlan, modifyPlan, moved, inkPlan}
-use Rattle.stage.specs.Draw.{cullPlan, depthPlan, runEdit, drawPlan}
+use Rattle.stage.specs.Draw.{cullPlan, explainPlan, depthPlan, runEdit, drawPlan}
 use Rattle.change.specs.Decoded.{decoded, floatsAfter, wordsAfter, depthAfter, appends}
 use Rattle.ink.specs.Ink.{inkOf}
 use Rattle.triangle.specs.Run.{closed, sameRun}
 use Rattle.triangle.specs.Slot.{held}
+use Rattle.reason.specs.Reason.{reason}
 use Rattle.prints.specs.Prints.{Prints, viewed, load, modify, drawn, load0, load1, load2, draw1, modify1, draw2, loadUnlit, loadLit, drawLit, recolour, drawRecoloured, inkCount, loadMatrix, force, someFirst, someAgain}
 
 pub prints : Prints
-unfolding loadMatrix force someFirst someAgain telling matrixStores matrixPlan forceStores forcePlan combine turned made pushed rowAt matrixAt exactAt noes inexactAt eq viewed load modify drawn load0 load1 load2 draw1 modify1 draw2 loadUnlit loadLit drawLit recolour drawRecoloured inkCount inkOf inkPlan asking changed changePlan modifyPlan cullPlan depthPlan runEdit drawPlan decoded floatsAfter wordsAfter depthAfter appends moved closed sameRun held le ofRatio isRatio entryAt tripleAt viewportAt sqrt toBits rowTimes codeOf depthOf vertexAt put write matches texgenMode pick find lightEntries directional sameScale refold floatsOf wordsOf clipOf slotAt slotOf verticesAt unless carry appended appending all stateSound blank openingPlan opening.opened viewing viewportPlan geometryPlan relit settled settledState sharedBy loadEdits loadPlan fillSlot fillSlots times rows laid add mul div neg lt ne
+unfolding loadMatrix force someFirst someAgain telling matrixStores matrixPlan forceStores forcePlan combine turned made pushed rowAt matrixAt exactAt noes inexactAt eq viewed load modify drawn load0 load1 load2 draw1 modify1 draw2 loadUnlit loadLit drawLit recolour drawRecoloured inkCount inkOf inkPlan asking changed changePlan modifyPlan cullPlan explainPlan reason depthPlan runEdit drawPlan decoded floatsAfter wordsAfter depthAfter appends moved closed sameRun held le ofRatio isRatio entryAt tripleAt viewportAt sqrt toBits rowTimes codeOf depthOf vertexAt put write matches texgenMode pick find lightEntries directional sameScale refold floatsOf wordsOf clipOf slotAt slotOf verticesAt unless carry appended appending all stateSound blank openingPlan opening.opened viewing viewportPlan geometryPlan relit settled settledState sharedBy loadEdits loadPlan fillSlot fillSlots times rows laid add mul div neg lt ne
 prints =
     record {
       begins = (refl, refl);
@@ -53,4 +54,7 @@ prints =
       case16 = ((refl, refl), (refl, refl));
       case17 = ((refl, refl), (refl, refl), (refl, refl));
       case18 = (((refl, refl), (refl, refl)), (refl, refl));
+      case19 = (((refl, refl), (refl, refl), (refl, refl), (refl, refl)), ((refl, refl), (refl, refl)));
+      case20 = ((refl, refl), (refl, refl));
+      case21 = ((refl, refl), (refl, refl), (refl, refl));
     }

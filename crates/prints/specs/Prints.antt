@@ -23,7 +23,7 @@ use Rattle.stage.specs.Opening.{zeros, blank, openingPlan, areas12}
 use Rattle.stage.specs.Matrices.{matrixPlan, forcePlan, viewportPlan, geometryPlan, area1, area2}
 use Rattle.stage.specs.Load.{loadAreas, LoadAreas, loadMeans}
 use Rattle.stage.specs.Modify.{modifyMeans, inkPlan}
-use Rattle.stage.specs.Draw.{cullPlan, depthPlan, drawMeans}
+use Rattle.stage.specs.Draw.{cullPlan, explainPlan, depthPlan, drawMeans}
 use Rattle.layout.specs.Layout.{entryAt, viewportAt}
 
 -- x is the fraction z / d, exactly
@@ -84,6 +84,10 @@ one bytes = load opened lentAreas 0 1 bytes
 abbrev pub both : Outcome LoadAreas
 both = load opened lentAreas 0 2 (pointBytes 0 2 0 0 0 2 ++ pointBytes 0 0 0 0 0 2)
 
+-- vertices of codes 5 and 6, outside left and bottom and outside right and bottom, loaded likewise
+abbrev pub below : Outcome LoadAreas
+below = load opened lentAreas 0 2 (pointBytes 0xFF 0xFB 0xFF 0xFB 0 0 ++ pointBytes 0 5 0xFF 0xFB 0 0)
+
 -- a vertex with a screen z loaded into slot 0, after that viewport
 abbrev pub deep : Outcome LoadAreas
 deep = load (viewed .state) lentAreas 0 1 (pointBytes 0 0 0 0 0 1)
@@ -96,9 +100,12 @@ modify s l slot attribute value = modifyMeans s slot attribute value (l .scales,
 abbrev pub modified : ℕ → ℕ → Outcome (List Float × List Float × List ℕ)
 modified attribute value = modify (deep .state) (deep .areas) 0 attribute value
 
--- the cull test of slots 0 and 1, and the depth test of slot 0
+-- the cull test of slots 0 and 1, its explainer from slot first to slot last, and the depth test of slot 0
 abbrev pub culled : State → Outcome (Unit {0})
 culled s = carry nothing (cullPlan (limit s) s 0 1) s tt
+
+abbrev pub explained : State → ℕ → ℕ → Outcome (Unit {0})
+explained s first last = carry nothing (explainPlan (limit s) s first last) s tt
 
 abbrev pub near : State → ℕ → Outcome (Unit {0})
 near s threshold = carry nothing (depthPlan (limit s) s 0 threshold) s tt
@@ -259,3 +266,9 @@ pub record Prints : Type 0 where
   pub case17 : Tells (loadMatrix opened roomy (sixteen 0x7F 0xFF 0xFF 0xFF)) 16 × Tells (force opened roomy (sixteen 0x7F 0xFF 0xFF 0xFF)) 16 × Answers (force opened (opening .areas .0) (sixteen 0x7F 0xFF 0xFF 0xFF)) 9 (1 ∷ [])
   -- 18. of -32768, 255 + 65535/65536, 256 + 1/65536, 32767 + 65535/65536 and twelve 0 two are not exact; loaded again, where nothing is appended, it tells the same
   pub case18 : (Tells someFirst 2 × Tells someAgain 2) × ((someFirst .state .counts .matrices ≡ 2) × (someAgain .state .counts .matrices ≡ 2))
+  -- 19. codes 5 and 6: culled, all outside plane 2, the bottom; slot 0 alone is outside planes 0 and 2, of which 0 is named
+  pub case19 : (Tells below 1 × Code (below .state) 0 5 × Code (below .state) 1 6 × Tells (culled (below .state)) 1) × (Answers (explained (below .state) 0 1) 0 (1 ∷ 2 ∷ []) × Answers (explained (below .state) 0 0) 0 (1 ∷ 0 ∷ []))
+  -- 20. codes 34 and 32: not culled; slot 1 is the first that is not outside plane 1, the right, and slot 0 of the others; slot 1 alone
+  pub case20 : Answers (explained (both .state) 0 1) 0 (0 ∷ 0 ∷ 1 ∷ 0 ∷ 0 ∷ []) × Answers (explained (both .state) 1 1) 0 (0 ∷ 1 ∷ 1 ∷ 1 ∷ 1 ∷ [])
+  -- 21. code 0, and a slot that is not loaded: 3 with slot 1, though slot 0 is outside no plane; slots 1 to 0: 2
+  pub case21 : Code (one (pointBytes 0 1 0 0 0 0) .state) 0 0 × Answers (explained (one (pointBytes 0 1 0 0 0 0) .state) 0 1) 3 (1 ∷ []) × Answers (explained (one (pointBytes 0 1 0 0 0 0) .state) 1 0) 2 (1 ∷ 0 ∷ [])

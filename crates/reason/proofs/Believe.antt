@@ -3,7 +3,7 @@ use mathlib.Core.Path.{_≡_, refl, sym, ap, _∙_}
 use Prim.Native.Nat.{ℕ, zero, suc, _+_, _-_, _/_, _%_, _^_, _≤_, _<_}
 use native.Mathlib.Omega.{arith}
 use mathlib.Core.Bool.{Bool, true, false, false≢true}
-use mathlib.Core.List.{List, [], _∷_, map}
+use mathlib.Core.List.{List}
 use lib.ListN.{getD}
 use lib.Dec.{ltb}
 use borrow.Author.Tests.{eqb-true, eqb-false, eq-eqb, ltb-true, ltb-false}
@@ -62,15 +62,15 @@ module _ (code : List ℕ) (first last : ℕ) where
   -- THE REASON IS TRUE OF THE CODES, whatever they and the range are
   pub reason-true : TellsTruth code first last (reason first range)
   unfolding reason pick
-  reason-true = go (culled range) refl
+  reason-true = by (culled range) refl
     where
-      go : (b : Bool) → culled range ≡ b → TellsTruth code first last (pick b (1 ∷ lowest planes range ∷ []) (0 ∷ map (λ (v : ℕ). firstInside v first range) planes))
-      go true e = record { why = AllOutside (lowest planes range); values = refl; holds = true-yes (lowest planes range) (lowest-is planes range (sym (culled-is range) ∙ e)) }
-      go false e =
+      by : (b : Bool) → culled range ≡ b → TellsTruth code first last (reason first range)
+      by true e = record { why = AllOutside (lowest planes range); values = rw e; holds = true-yes (lowest planes range) (lowest-is planes range (sym (culled-is range) ∙ e)) }
+      by false e =
           let n = none-of planes range (sym (culled-is range) ∙ e) in
           record {
             why = FirstInside (firstInside 1 first range) (firstInside 2 first range) (firstInside 4 first range) (firstInside 8 first range);
-            values = refl;
+            values = rw e;
             holds = (true-no 0 (n 0 (omega arith)), true-no 1 (n 1 (omega arith)), true-no 2 (n 2 (omega arith)), true-no 3 (n 3 (omega arith)));
           }
 

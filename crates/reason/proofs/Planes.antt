@@ -1,7 +1,7 @@
 -- The cull test plane by plane: it says yes exactly where every code lies outside one of the four side planes. Assumes nothing.
 use mathlib.Core.Path.{_≡_, refl, sym, ap, ap₂, _∙_}
 use Prim.Native.Nat.{ℕ, zero, suc, _+_, _/_, _%_, _^_, _≤_, _<_, zero-le, suc-le-suc}
-use native.Mathlib.Nat.{le-trans, not-suc-le-zero, le-of-suc-le-suc}
+use native.Mathlib.Nat.{le-trans, lt-of-le-of-lt, not-suc-le-zero, le-of-suc-le-suc}
 use native.Mathlib.Omega.{arith}
 use mathlib.Core.Bool.{Bool, true, false, not, _&&_, _||_, and-assoc, and-true, or-false, false≢true}
 use mathlib.Core.List.{List, [], _∷_}
@@ -65,12 +65,9 @@ anyOf (v ∷ vs) cs = allOutside v cs || anyOf vs cs
 -- CULLED, PLANE BY PLANE: yes exactly where every code lies outside one of the four side planes
 pub culled-is : (cs : List ℕ) → culled cs ≡ anyOf planes cs
 culled-is cs =
-    let n = anded 0x0f cs in
-    let m : n ≤ 15 = anded-least 0x0f cs in
-    four-flags n (omega arith)
-    ∙ ap₂ (λ (a b : Bool). a || b) (anded-flag 0 0x0f cs)
-    (ap₂ (λ (a b : Bool). a || b) (anded-flag 1 0x0f cs)
-    (ap₂ (λ (a b : Bool). a || b) (anded-flag 2 0x0f cs) (anded-flag 3 0x0f cs ∙ sym (or-false (allOutside 8 cs)))))
+    four-flags _ (lt-of-le-of-lt (anded-least _ cs) (omega arith))
+    ∙ ap₂ (λ (a b : Bool). a || b) (anded-flag 0 _ cs)
+    (ap₂ (λ (a b : Bool). a || b) (anded-flag 1 _ cs) (ap₂ (λ (a b : Bool). a || b) (anded-flag 2 _ cs) (anded-flag 3 _ cs ∙ sym (or-false (allOutside 8 cs)))))
 
 neither : (a b : Bool) → a || b ≡ false → (a ≡ false) × (b ≡ false)
 neither false b e = (refl, e)

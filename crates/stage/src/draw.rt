@@ -128,12 +128,12 @@ impl State {
     fn explained(self, first: u32, last: u32) -> Answer
         ensures { λ r. ⌜ outcome (record { state = self; answer = r }) tt ≡ carry nothing (explainPlan (limit self) self first last) self tt ⌝ }
     {
-        let answer = self.culled(first, last);
-        if let Answer::Told(_) = answer {
+        let test = self.culled(first, last);
+        if let Answer::Told(_) = test {
             let code = self.code;
             return answer_for(reason::reason_of(&code, first, last));
         }
-        answer
+        test
     }
 
     // Explain cull (13): for yes the lowest side plane that every slot lies outside; for no, for each side plane, the first slot that
