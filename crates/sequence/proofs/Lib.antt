@@ -10,4 +10,5 @@ pub mod Joined
 pub mod Spelled
 pub mod Placed
 pub mod Only
+pub mod Explained
 pub mod Merged
