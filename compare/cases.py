@@ -334,6 +334,12 @@ EXPLAINED = {
     "explain-changes-nothing": (DRAWN + short(*range(10)) + explain((0, 2), (1, 2), (0, 3)) + [op("poke", 4, 0, 99)] + explain((0, 2)),
                                 explained(16, "0 0 0 0 0 0", "0 0 1 1 1 1", "3 3") + explained(20, "0 0 0 0 0 0") +
                                 [*UNTOUCHED, "slot 0 99 1 1 0 " + F64(0.0), "slot 1 1 1 1 0 " + F64(0.0)]),
+    # A loaded mark taken away and given back; one given to a slot that has no code and was never loaded.
+    "explain-poked-loaded": (START + [placed(0, 2, 2)] + explain((0, 1)) + [op("poke", 7, 1, 0)] + explain((0, 1), (0, 0)) + [op("poke", 7, 0x101, 3)] +
+                             explain((0, 1)) + [op("poke", 7, 5, 1)] + explain((5, 5)) + [op("draw", 5, 5, 5, *DRAW), op("modify", 5, 0x10, 7),
+                                                                                        op("poke", 7, 5, 2)] + explain((5, 5)),
+                             explained(3, "0 1 1") + explained(5, "3 1", "0 1 1") + explained(8, "0 1 1") + explained(10, "4 5") +
+                             ["11 draw 6 5", "12 modify 0"] + explained(14, "3 5")),
     "explain-keeps-drawn": (DRAWN + explain((0, 2)) + [load(3, (0, 0, 1))] + explain((0, 3)) + [op("modify", 1, 0x18, 0x00080008), op("modify", 3, 0x10, 5)] +
                             explain((1, 3)), explained(6, "0 0 0 0 0 0") + explained(8, "0 0 0 0 0 0") + explained(11, "0 0 1 1 1 1") +
                             ["slot 1 4 1 0 0 " + F64(0.0), "slot 3 3 1 0 0 " + F64(0.0), "counts 1 1 1 0 0 0 5 3 1"]),

@@ -570,6 +570,8 @@ def poke(s, field, index, value):
     elif field == 4:
         slot = s.slots[index % 256]
         slot.row, slot.ever = value, True
+    elif field == 7:
+        s.slots[index % 256].loaded = value % 2 == 1
 
 
 class Driver:

@@ -1,9 +1,8 @@
 -- `player::act::poked` meets its contract. Assumes nothing.
-use mathlib.Core.Path.{sym}
 use Prim.Native.Nat.{zero-le}
-use lib.ListN.{List·getD-eq-default}
-use Rattle.player.specs.Acts.{pokedStates, pokedState}
+use Rattle.player.specs.Acts.{pokedState}
 use Rattle.trace.proofs.Lending.{past}
+use Rattle.player.proofs.Acting.{no-field}
 use borrow.Author.Needs.{needs}
 use Rattle.player.proofs.act.poked.Statement.{statement}
 use Rattle.player.proofs.act.poked.Tie as tie
@@ -22,6 +21,9 @@ element-write-r c = search needs
 
 element-write-r-2 : tie.Need-element-write-r-2
 element-write-r-2 c = search needs
+
+element-write-r-3 : tie.Need-element-write-r-3
+element-write-r-3 c = search needs
 
 returns : tie.Need-returns
 unfolding pokedState
@@ -45,7 +47,13 @@ returns-5 c = rw (c .match .keys5)
 
 returns-6 : tie.Need-returns-6
 unfolding pokedState
-returns-6 c = sym (List·getD-eq-default (pokedStates (c .before .args .s) (c .before .args .index) (c .before .args .value)) (c .before .args .s) (past (past (past (past (past (zero-le) (c .match .rest .0 .0 .0 .0 .1)) (c .match .rest .0 .0 .0 .1)) (c .match .rest .0 .0 .1)) (c .match .rest .0 .1)) (c .match .rest .1)))
+returns-6 c = rw (c .match .keys6)
+
+returns-7 : tie.Need-returns-7
+unfolding pokedState
+returns-7 c =
+    no-field (c .before .args .s) (c .before .args .index) (c .before .args .value) _
+    (past (past (past (past (past (zero-le) (c .match .rest .0 .0 .0 .0 .0 .1)) (c .match .rest .0 .0 .0 .0 .1)) (c .match .rest .0 .0 .0 .1)) (c .match .rest .0 .0 .1)) (c .match .rest .0 .1)) (c .match .rest .1)
 
 pub poked-spec : {M : Type 1} → statement M
 poked-spec =
@@ -56,9 +64,11 @@ poked-spec =
     mul-r
     element-write-r
     element-write-r-2
+    element-write-r-3
     returns
     returns-2
     returns-3
     returns-4
     returns-5
-    returns-6)
+    returns-6
+    returns-7)
