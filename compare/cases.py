@@ -298,6 +298,9 @@ SPOILT = ((0, 0, 0, 1), (1, 0, 0, 1), (1, 0, 33, 1), (2, 0, 8, 0), (3, 1, 0, 1),
 TURNED = START[:1] + [matrix(2, bytes_of.diagonal(1, 1, 1, -1))]
 # Why a range of slots is culled or not, by its first slot and its last.
 EXPLAINED = {
+    "19-lowest-plane": (START + [load(0, (-5, -5, 0), (5, -5, 0)), op("cull", 0, 1)] + explain((0, 1), (0, 0)), ["3 cull 0 1"] + explained(4, "0 1 2", "0 1 0")),
+    "20-first-inside": (START + [load(0, (2, 0, 4), (0, 0, 4)), op("cull", 0, 1)] + explain((0, 1), (1, 1)), ["3 cull 0 0"] + explained(4, "0 0 0 1 0 0", "0 0 1 1 1 1")),
+    "21-refused-behind-it": (START + [load(0, (1, 0, 0))] + explain((0, 1), (1, 0)), explained(3, "3 1", "2 1 0")),
     # All four planes have slot 100 outside; one after the other drops out, and at last none is left.
     "explain-each-plane": (TURNED + [placed(100, 0, 1 << 1, 1 << 0, 1 << 3, 1 << 2)] + explain(*((100, 100 + k) for k in range(5)), (101, 104), (104, 104)),
                            [f"slot 10{k} {k} 1 0 {63 - (1 << k >> 1)} {F64(0.0)}" for k in range(5)] +
