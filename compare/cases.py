@@ -5,11 +5,10 @@ import bytes_of
 import model
 import tracefile
 from floats import f32
-from tracefile import ROW_FLOATS, ROW_WORDS, WIDTHS, Op
+from tracefile import WIDTHS, Op
 
 ROOMY = [n * w for n, w in zip((40, 8, 8, 40, 8, 4, 300, 300, 60, 8), WIDTHS)]
 DRAW = [0, 0, 0, 0]
-COLOUR = 0x04030201                  # of vertices, unless said
 IDENTITY = bytes_of.matrix(bytes_of.diagonal(1, 1, 1, 1))
 F32 = lambda x: struct.pack(">f", x).hex()
 F64 = lambda x: struct.pack(">d", x).hex()
@@ -29,11 +28,6 @@ def load(first, *points, colour=(1, 2, 3, 4)):
 
 def many(first, count):
     return op("load", first, count, data=vertices(*[(1, 2, 3)] * count))
-
-
-def row(k, number, point=(0, 0, 1), s_t=(0, 0), screen=(0, 0, 0), words=(0, 0, 0, 0, COLOUR), lights=(0, 0)):
-    """The line of a row that the load of this number made; words are its flags, matrix, viewport, scale and colour."""
-    return " ".join([f"t7 {k}", *map(F32, (*point, *s_t, *screen, 0)), *map(str, (*words, *lights, 0, 0, 0, number))])
 
 
 def entries(table, n):
@@ -96,7 +90,7 @@ LIGHTED = START + [op("lightnum", 24), op("light", 0, data=bytes(range(11))), op
 OVER, BACK = (0xFFFDFFFF, 0), (0xFFFFFFFF, 0x20000)
 # A corner without light, the same word under the ambient light alone, a word of zeros there; drawn and counted.
 HALF_LIT = [op("open"), load(0, (0, 0, 0)), op("geom", 0, 0x20000), load(1, (0, 0, 0)), load(2, (0, 0, 0), colour=(0, 0, 0, 0)),
-            op("draw", 0, 1, 2, *DRAW), op("ink", COLOUR), op("ink", 0)]
+            op("draw", 0, 1, 2, *DRAW), op("ink", 0x04030201), op("ink", 0)]
 # name: commands after which the output has these lines; the areas are ROOMY unless said.
 CASES = {
     "01-entries": (START + [force([1.5, -0.5, 32767 + 65535 / 65536] + [0] * 13)],
@@ -104,12 +98,13 @@ CASES = {
     "02-colour": (START + [load(0, (0, 0, 0)), op("modify", 0, 0x10, 0x11223344), op("draw", 0, 0, 0, *DRAW),
                            op("ink", 0x44332211)], ["5 ink 0 3"]),
     "03-texture": (START + [load(0, (0, 0, 0)), op("modify", 0, 0x14, 0xFFE00040)],
-                   [row(0, 1, (0, 0, 0), s_t=(-1, 2), words=(0, 0, 0, 1, COLOUR))]),
+                   ["t7 0 " + " ".join(map(F32, [0.0] * 3 + [-1.0, 2.0] + [0.0] * 4)) + " 0 0 0 1 67305985 0 0 0 0 0"]),
     "04-screen": (START + [load(0, (0, 0, 0)), op("modify", 0, 0x18, 0x0004FFFE)],
-                  [row(0, 1, (0, 0, 0), screen=(1, -0.5, 0), words=(1, 0, 0, 0, COLOUR))]),
+                  ["t7 0 " + " ".join(map(F32, [0.0] * 5 + [1.0, -0.5, 0.0, 0.0])) + " 1 0 0 0 67305985 0 0 0 0 0"]),
     "05-depth": (START + [load(0, (0, 0, 0)), load(1, (0, 0, 0)), op("modify", 0, 0x1C, 16777217), op("modify", 1, 0x1C, 0xFFFFFFFF)],
                  ["slot 0 0 1 0 0 " + F64(16777217 / 65536), "slot 1 1 1 0 0 " + F64(0xFFFFFFFF / 65536),
-                  *(row(k, k + 1, (0, 0, 0), screen=(0, 0, z), words=(2, 0, 0, 0, COLOUR)) for k, z in enumerate((0.25, 64)))]),
+                  "t7 0 " + " ".join(map(F32, [0.0] * 7 + [0.25, 0.0])) + " 2 0 0 0 67305985 0 0 0 0 0",
+                  "t7 1 " + " ".join(map(F32, [0.0] * 7 + [64.0, 0.0])) + " 2 0 0 0 67305985 0 0 0 0 0"]),
     **{f"06-lights-{n}": (START + [op("lightnum", n)], [f"state 1 0 0 1 0 0 0 0 0 0 0 {want}"])
        for n, want in ((23, 0), (48, 2), (191, 7), (500, 7))},
     "08-viewport": (START + [op("viewport", data=struct.pack(">8h", 640, 480, 511, 0, 0, 0, 0, 0))],
@@ -127,10 +122,10 @@ CASES = {
     "13-joined": (LIGHTED + [op("geom", *model.joined(OVER, BACK)), load(1, (0, 0, 1))],
                   ["counts 1 1 1 2 0 0 2 0 0", "state 1 131072 0 1 0 0 0 0 0 0 0 1"]),
     "14-lit-and-unlit": (HALF_LIT, ["6 ink 0 1", "7 ink 0 0"] +
-                         [row(k, k + 1, (0, 0, 0), words=(0, 0, 0, 0, word), lights=(0, lights))
-                          for k, (word, lights) in enumerate(((COLOUR, 0), (COLOUR, 1), (0, 1)))]),
-    "15-recoloured": (HALF_LIT + [op("modify", 1, 0x10, 0x01020304), op("draw", 1, 1, 1, *DRAW), op("ink", COLOUR)],
-                      ["6 ink 0 1", "10 ink 0 4", row(3, 2, (0, 0, 0))]),
+                         [f"t7 {k} " + " ".join([F32(0.0)] * 9) + f" 0 0 0 0 {word} 0 {lights} 0 0 0"
+                          for k, (word, lights) in enumerate(((0x04030201, 0), (0x04030201, 1), (0, 1)))]),
+    "15-recoloured": (HALF_LIT + [op("modify", 1, 0x10, 0x01020304), op("draw", 1, 1, 1, *DRAW), op("ink", 0x04030201)],
+                      ["6 ink 0 1", "10 ink 0 4", "t7 3 " + " ".join([F32(0.0)] * 9) + " 0 0 0 0 67305985 0 0 0 0 0"]),
     "load-256-from-0": (START + [many(0, 256)], ["2 load 0 0", "counts 1 1 1 0 0 0 256 0 0"]),
     "load-256-from-1": (START + [many(1, 256)], ["2 load 1 256 1", "counts 1 1 0 0 0 0 0 0 0"]),
     "load-0-from-256": (START + [many(256, 0)], ["2 load 0 0", "counts 1 1 1 0 0 0 0 0 0"]),
@@ -190,7 +185,7 @@ def short(*areas):
 
 def first_light(row, first, count):
     """The caller's own numbers for the lights of a row."""
-    return [op("write", 7, ROW_WORDS * row + 5, first), op("write", 7, ROW_WORDS * row + 6, count)]
+    return [op("write", 7, 10 * row + 5, first), op("write", 7, 10 * row + 6, count)]
 
 
 def far_away(column):
@@ -202,8 +197,6 @@ def far_away(column):
 DRAWN = CORNERS + [op("draw", 0, 1, 2, *DRAW)]                                  # six commands
 LIT = START + [op("geom", 0, 0xF0000), load(0, (0, 0, 1)), op("light", 1, data=bytes(11)), op("lookat", 0, data=bytes(11)),
                op("fog", 1, 1), op("texture", 0, 0, 0, 9, 9), force([2.0] * 16), op("ucode", 0)]
-# Lengths that hold what a load of one adds to LIT, by area.
-ONE_MORE = ((0, 48), (2, 8), (3, 12), (4, 12), (5, 4), (6, 2 * ROW_FLOATS), (7, 2 * ROW_WORDS))
 CULLED = op("geom", 0, 0x600)
 FRONT = op("geom", 0, 0x200)
 WRONG_RUN = op("write", 9, 6, 1)
@@ -212,9 +205,11 @@ ORDER = {
     "load-1-7-8": (CORNERS + short(0, 2, 6) + [op("load", 1, 256, data=b""), op("load", 0, 257, data=b""), op("load", 0, 2, data=bytes(31)),
                                                many(0, 2)], ["8 load 1 256 1", "9 load 1 257 0", "10 load 7 32", "11 load 8 1"]),
     "load-8-least": (LIT + short(6, 5, 4, 3, 2) + [many(0, 1), op("lend", 2, 4), many(0, 1), op("lend", 3, 12), many(0, 1), op("lend", 4, 6),
-                                                   many(0, 1), op("lend", 5, 2), many(0, 1), op("lend", 6, 9), op("lend", 7, ROW_WORDS - 1), many(0, 1)],
+                                                   many(0, 1), op("lend", 5, 2), many(0, 1), op("lend", 6, 9), op("lend", 7, 9), many(0, 1)],
                      ["15 load 8 3", "17 load 8 4", "19 load 8 5", "21 load 8 6", "23 load 8 7", "26 load 8 7"]),
-    "load-9-least": (LIT + [op("lend", a, n - 1) for a, n in ONE_MORE] + [many(0, 1)] + [each for lent in ONE_MORE for each in (op("lend", *lent), many(0, 1))],
+    "load-9-least": (LIT + [op("lend", a, n) for a, n in ((0, 47), (2, 7), (3, 11), (4, 11), (5, 3), (6, 17), (7, 19))] +
+                     [many(0, 1), op("lend", 0, 48), many(0, 1), op("lend", 2, 8), many(0, 1), op("lend", 3, 12), many(0, 1),
+                      op("lend", 4, 12), many(0, 1), op("lend", 5, 4), many(0, 1), op("lend", 6, 18), many(0, 1), op("lend", 7, 20), many(0, 1)],
                      ["17 load 9 1", "19 load 9 3", "21 load 9 4", "23 load 9 5", "25 load 9 6", "27 load 9 7", "29 load 9 7", "31 load 0 1"]),
     "data-before-room": (START + short(0, 1) + [op("matrix", 2, data=bytes(63)), op("matrix", 2, data=IDENTITY), op("force", data=bytes(63)),
                                                 op("force", data=IDENTITY), op("viewport", data=bytes(15)), op("viewport", data=bytes(16)),
@@ -244,17 +239,16 @@ ORDER = {
                           "22 draw 9 9", "23 draw 0"]),
     "last-run-does-not-wrap": (DRAWN + [op("write", 9, 6, 0xFFFFFFFF), op("write", 9, 7, 4), op("draw", 0, 1, 2, *DRAW)], ["8 draw 10"]),
     "indices-without-run": (DRAWN + [op("poke", 3, 9, 0), op("draw", 0, 1, 2, *DRAW)], ["7 draw 0", "t9 0 0 0 0 0 0 0 3 3"]),
-    "ink-least": (DRAWN + short(8, 6) + [op("ink", 0), op("lend", 6, 27), op("ink", 0), op("lend", 8, 3), op("ink", COLOUR)],
+    "ink-least": (DRAWN + short(8, 6) + [op("ink", 0), op("lend", 6, 27), op("ink", 0), op("lend", 8, 3), op("ink", 0x04030201)],
                   ["8 ink 8 7", "10 ink 8 8", "12 ink 0 3"]),
-    "ink-beyond-rows": (DRAWN + [op("write", 8, 1, 5), op("ink", 7), op("ink", COLOUR), op("poke", 3, 7, 2), op("ink", COLOUR)],
+    "ink-beyond-rows": (DRAWN + [op("write", 8, 1, 5), op("ink", 7), op("ink", 0x04030201), op("poke", 3, 7, 2), op("ink", 0x04030201)],
                         ["7 ink 0 0", "8 ink 0 2", "10 ink 0 1"]),
     "ink-first-light": (LIGHTED + [op("light", 1, data=bytes(3)), load(1, (0, 0, 1)), op("geom", *OVER), load(2, (0, 0, 1)),
-                                   op("draw", 0, 1, 2, *DRAW), op("ink", COLOUR), *first_light(1, 3, 0), op("ink", COLOUR),
-                                   *first_light(2, 0, 3), op("ink", COLOUR)],
+                                   op("draw", 0, 1, 2, *DRAW), op("ink", 0x04030201), *first_light(1, 3, 0), op("ink", 0x04030201),
+                                   *first_light(2, 0, 3), op("ink", 0x04030201)],
                         ["11 ink 0 1", "14 ink 0 2", "17 ink 0 1", "counts 1 1 1 4 0 0 3 3 1"]),
     "others-not-judged": (DRAWN + short(1, 8, 9) + [load(0, (0, 0, 1)), op("pop", 0), op("modify", 0, 0x10, 0), *short(*range(10)), op("lend", 8, 60),
-                                                    op("lend", 9, 64), op("draw", 0, 1, 2, *DRAW), op("lend", 9, 0), op("lend", 6, 10 * ROW_FLOATS),
-                                                    op("lend", 7, 9 * ROW_WORDS),
+                                                    op("lend", 9, 64), op("draw", 0, 1, 2, *DRAW), op("lend", 9, 0), op("lend", 6, 90), op("lend", 7, 90),
                                                     op("ink", 0), op("lend", 7, 0), op("lend", 0, 16), op("force", data=IDENTITY), op("pop", 0),
                                                     op("matrix", 2, data=IDENTITY), op("lend", 0, 0), op("lend", 1, 6), op("viewport", data=bytes(16))],
                           ["9 load 0 0", "10 pop 0", "11 modify 0", "24 draw 0", "28 ink 0 1", "31 force 0 0", "32 pop 0", "33 matrix 0 0", "36 viewport 0"]),
@@ -273,18 +267,18 @@ ORDER = {
 # Numbers that are no area's, places outside those that take numbers, and what DRAWN leaves.
 BEYOND = (10, 11, 12, 13, 0xFFFFFFFF)
 OUTSIDE = [op("write", a, place, 1) for a in tracefile.WRITTEN for place in (ROOMY[a], 0xFFFFFFFF)]
-UNTOUCHED = ["counts 1 1 1 0 0 0 3 3 1", "state 1 0 0 1 0 0 0 0 0 0 0 0", "loads 3", f"area 5 {model.area_hash([7] * ROOMY[5])}",
+UNTOUCHED = ["counts 1 1 1 0 0 0 3 3 1", "state 1 0 0 1 0 0 0 0 0 0 0 0", f"area 5 {model.area_hash([7] * ROOMY[5])}",
              f"area 8 {model.area_hash([0, 1, 2] + [7] * (ROOMY[8] - 3))}"]
 # Acts of the driver: most name nothing, and change nothing.
 ACTS = {
     "second-header": (CORNERS + short(*BEYOND) + [op("pop", 0), op("draw", 0, 1, 2, *DRAW), op("write", 12, 0, 1), op("lend", 12, 1024),
-                                                  op("ink", COLOUR)],
+                                                  op("ink", 0x04030201)],
                       ["5 lend 0", "6 lend 0", "7 lend 0", "10 pop 0", "11 draw 0", "12 write 0", "13 lend 0", "14 ink 0 3", *UNTOUCHED]),
     "write-not-lent": (DRAWN + short(8) + [op("write", 8, 1, 2), op("write", 8, 59, 1)], ["7 write 0", "8 write 0", "t8 1 2"]),
-    "writes-to-nothing": (DRAWN + OUTSIDE + [op("write", a, 0, 1) for a in (0, 1, 2, 3, 4, 6, *BEYOND)] + [op("ink", COLOUR)],
+    "writes-to-nothing": (DRAWN + OUTSIDE + [op("write", a, 0, 1) for a in (0, 1, 2, 3, 4, 6, *BEYOND)] + [op("ink", 0x04030201)],
                           ["6 write 0", "25 ink 0 3", *UNTOUCHED]),
-    "pokes-of-nothing": (DRAWN + [op("poke", *p) for p in ((6, 0, 9), (0xFFFFFFFF, 0, 9), (3, 0, 9), (3, 10, 9), (3, 0xFFFFFFFF, 9))] +
-                         [op("ink", COLOUR)], ["6 poke 0", "11 ink 0 3", *UNTOUCHED]),
+    "pokes-of-nothing": (DRAWN + [op("poke", *p) for p in ((5, 0, 9), (0xFFFFFFFF, 0, 9), (3, 0, 9), (3, 10, 9), (3, 0xFFFFFFFF, 9))] +
+                         [op("ink", 0x04030201)], ["6 poke 0", "11 ink 0 3", *UNTOUCHED]),
     "pokes-by-low-bits": (DRAWN + [op("poke", 0, 0, 2), op("geom", 0, 0), op("poke", 0, 0, 3), op("geom", 0, 0), op("poke", 4, 0x103, 2),
                                    op("draw", 3, 3, 3, *DRAW)], ["7 geom 10", "9 geom 0", "11 draw 0", "t8 3 2", "slot 3 2 0 1 - -"]),
 }
@@ -357,107 +351,11 @@ EXPLAINED = {
                             ["3 cull 0 1", "4 explain 0 1 1", "5 cull 0 0", "6 explain 0 0 0 3 0 0", "7 cull 0 0", "8 explain 0 0 1 3 1 2", "9 cull 0 1",
                              "10 explain 0 1 3", "11 cull 3 4", "12 explain 3 4", "13 cull 2 4 3", "14 explain 2 4 3"]),
 }
-
-
-LAST = 0xFFFFFFFF
-CORNER = load(0, (0, 0, 1))
-NONE = many(0, 0)
-
-
-def loads(n):
-    """The caller sets how many loads were accepted so far."""
-    return op("poke", 5, 0, n)
-
-
-def numbered(*numbers):
-    """Rows of a vertex at CORNER's place, from row 0 on."""
-    return [row(k, n) for k, n in enumerate(numbers)]
-
-
-def short_then_long(change):
-    """LIT with room for no entry more, a change, and loads of one and of none; then each table in turn gets room for one entry, and these loads again."""
-    pair = [many(0, 1), NONE]
-    return LIT + [op("lend", a, n - 1) for a, n in ONE_MORE] + [change] + pair + [each for lent in ONE_MORE for each in (op("lend", *lent), *pair)]
-
-
-# A row's flags, matrix, viewport, scale and colour after a change to 0 of one attribute, of two and so on.
-SO_FAR = ((0, 0, 0, 0, 0), (0, 0, 0, 1, 0), (1, 0, 0, 1, 0), (3, 0, 0, 1, 0))
-# The number of the accepted load that made a row.
-NUMBERED = {
-    "22-load-numbers": (entries(7, 4), DRAWN + [op("modify", 1, 0x10, 5), load(3, (0, 0, 1)), NONE],
-                        ["6 modify 0", "7 load 9 7", "8 load 0 0", "counts 1 1 1 0 0 0 4 3 1", "loads 4", *numbered(1, 2, 3),
-                         row(3, 2, words=(0, 0, 0, 0, 5 << 24))]),
-    "23-last-number": (ROOMY, START + [loads(LAST - 1), CORNER, load(1, (0, 0, 1)), NONE, op("lend", 6, ROW_FLOATS), CORNER, NONE],
-                       ["3 load 0 0", "4 load 9 10", "5 load 9 10", "7 load 9 7", "8 load 9 10", f"loads {LAST}", row(0, LAST),
-                        "counts 1 1 1 0 0 0 1 0 0"]),
-    "loads-refused-stays": (entries(7, 3), DRAWN + [load(3, (0, 0, 1))], ["6 load 9 7", "loads 3", *numbered(1, 2, 3)]),
-    "loads-none-first": (ROOMY, START + [NONE, many(256, 0), CORNER, NONE], ["2 load 0 0", "3 load 0 0", "5 load 0 0", "loads 4", *numbered(3)]),
-    # Each refusal, then a load that is accepted.
-    "loads-refused": (entries(7, 2), [CORNER] + START + [CORNER, op("load", 1, 256, data=b""), op("load", 0, 257, data=b""), op("load", 0, 2, data=bytes(31)),
-                                                         *short(0), CORNER, NONE, op("lend", 0, ROOMY[0]), many(0, 2), op("poke", 1, 0, 33), CORNER, NONE,
-                                                         op("poke", 1, 0, 1), op("lend", 7, 2 * ROW_WORDS - 1), CORNER, op("lend", 7, 2 * ROW_WORDS), CORNER],
-                      ["0 load 10", "3 load 0 0", "4 load 1 256 1", "5 load 1 257 0", "6 load 7 32", "8 load 8 1", "9 load 8 1", "11 load 9 7", "13 load 10",
-                       "14 load 10", "17 load 9 7", "19 load 0 0", "loads 2", *numbered(1, 2)]),
-    "loads-after-microcode": (ROOMY, START + [CORNER, op("ucode", 1), CORNER, op("ucode", 0), NONE, op("ucode", 0), CORNER],
-                              ["loads 4", *numbered(1, 2, 4), "state 1 0 0 0 0 0 0 0 0 0 0 0"]),
-    "loads-microcode-last": (ROOMY, CORNERS + [op("ucode", 1)], ["loads 3", *numbered(1, 2, 3)]),
-    # Opening leaves what stands in the areas: a count that the caller sets shows the rows of before behind the new one.
-    "loads-open-again": (ROOMY, DRAWN + [op("open"), CORNER, op("poke", 3, 7, 3)], ["6 open 0", "loads 1", *numbered(1, 2, 3)]),
-    "loads-open-none": (ROOMY, [loads(9), op("open"), loads(LAST), op("open")], ["3 open 0", "loads 0"]),
-    "loads-open-refused": (ROOMY, CORNERS + short(0) + [op("open"), CORNER, op("lend", 0, 16), op("open"), CORNER],
-                           ["6 open 9 1", "7 load 10", "9 open 0", "10 load 0 1", "loads 1", *numbered(1)]),
-    "loads-refused-opening-has-none": (ROOMY, CORNERS + short(0) + [op("open"), op("poke", 0, 0, 1)], ["6 open 9 1", "open 1", "counts 0 0 0 0 0 0 0 0 0", "loads 0"]),
-    # A copy of each copy by one attribute after the other; then a row changed in place by all of them, and a copy of that.
-    "loads-kept": (ROOMY, CORNERS + [NONE] + [each for a in model.ATTRIBUTES for each in (op("draw", 1, 1, 1, *DRAW), op("modify", 1, a, 0))] +
-                   [op("modify", 2, a, 0) for a in model.ATTRIBUTES] + [op("draw", 2, 2, 2, *DRAW), op("modify", 2, 0x18, 0)],
-                   ["loads 4", *numbered(1, 2), row(2, 3, words=SO_FAR[3]), *(row(3 + k, 2, words=words) for k, words in enumerate(SO_FAR)),
-                    row(7, 3, words=SO_FAR[3])]),
-    # The caller's own number stands for a row's, whatever it is, and goes with the copy.
-    "loads-written": (ROOMY, DRAWN + [op("write", 7, ROW_WORDS * k + 10, n) for k, n in enumerate((0, LAST, 77))] +
-                      [op("modify", k, 0x10, 0) for k in range(3)] + [op("modify", 2, 0x10, 0), load(3, (0, 0, 1))],
-                      ["9 modify 0", "10 modify 0", "11 modify 0", "loads 4", *numbered(0, LAST, 77),
-                       *(row(3 + k, n, words=SO_FAR[0]) for k, n in enumerate((0, LAST, 77))), row(6, 4)]),
-    "loads-written-beyond": (ROOMY, START + [op("write", 7, k, LAST) for k in range(3 * ROW_WORDS)] + [CORNER, op("draw", 0, 0, 0, *DRAW), op("modify", 0, 0x10, 0)],
-                             [row(0, 1), row(1, 1, words=SO_FAR[0])]),
-    "loads-poked": (ROOMY, START + [CORNER, loads(0), CORNER, op("poke", 5, LAST, 7), CORNER, op("poke", 5, 9, 1048576), CORNER, loads(0x7FFFFFFF), CORNER, NONE,
-                                    loads(LAST - 3), CORNER, CORNER, CORNER, CORNER, loads(1), CORNER],
-                    ["14 load 0 0", "15 load 0 0", "16 load 9 10", "loads 2", *numbered(1, 1, 8, 1048577, 0x80000000, LAST - 2, LAST - 1, LAST, 2)]),
-    "loads-never-wrap": (ROOMY, START + [loads(LAST)] + [CORNER, NONE] * 2 + [op("ucode", 1), CORNER, op("ucode", 0), NONE],
-                         [f"{k} load 9 10" for k in (3, 4, 5, 6, 8, 10)] + [f"loads {LAST}", "counts 1 1 0 0 0 0 0 0 0"]),
-    # Every other refusal of a load comes first.
-    "loads-refused-last": (ROOMY, START + [CORNER, loads(LAST), op("load", 1, 256, data=b""), op("load", 0, 2, data=bytes(31)), *short(6), CORNER, NONE,
-                                           op("lend", 6, ROW_FLOATS), CORNER, NONE, op("lend", 6, 2 * ROW_FLOATS), CORNER, op("poke", 2, 0, 8), CORNER, NONE,
-                                           op("poke", 2, 0, 0), CORNER],
-                           ["4 load 1 256 1", "5 load 7 32", "7 load 8 7", "8 load 8 7", "10 load 9 7", "11 load 9 10", "13 load 9 10", "15 load 10", "16 load 10",
-                            "18 load 9 10", f"loads {LAST}", *numbered(1)]),
-    "loads-9-least": (ROOMY, short_then_long(loads(LAST)),
-                      [f"{18 + n} load 9 {t}" for k, t in enumerate((1, 3, 4, 5, 6)) for n in (3 * k, 3 * k + 1)] +
-                      ["33 load 9 7", "34 load 9 10", "36 load 9 7", "37 load 9 10", "39 load 9 10", "40 load 9 10", f"loads {LAST}", "counts 2 1 1 1 1 1 1 0 0"]),
-    "loads-9-none": (ROOMY, short_then_long(NONE) + [CORNER], ["17 load 9 1", "34 load 0 1", "37 load 0 1", "39 load 0 1", "40 load 0 1", "41 load 9 7", "loads 5"]),
-    # A lit load that would add to every table.
-    "loads-leave-everything": (ROOMY, LIT + [loads(LAST), many(0, 256), NONE],
-                               ["11 load 9 10", "12 load 9 10", "counts 2 1 1 1 1 1 1 0 0", "state 1 983040 0 0 0 0 0 9 9 1 1 0", f"loads {LAST}",
-                                f"area 6 {model.area_hash([0.0, 0.0, 1.0] + [0.0] * 6 + [7.0] * (ROOMY[6] - ROW_FLOATS))}", "slot 0 0 0 0 - -"]),
-    "loads-refused-then-done": (ROOMY, LIT + [loads(LAST), many(0, 1), loads(1), many(0, 1), many(1, 1)],
-                                ["11 load 9 10", "13 load 0 1", "14 load 0 1", "counts 3 1 2 2 2 2 3 0 0", "loads 3"]),
-    "loads-any-is-sound": (ROOMY, DRAWN + [each for n in (0, 1, 1048577, 0x7FFFFFFF, 0x80000000, LAST) for each in
-                                           (loads(n), op("pop", 0), op("cull", 0, 0), op("modify", 0, 0x18, 0), op("draw", 0, 1, 2, *DRAW), op("ink", COLOUR))],
-                           [f"{7 + 6 * k + n} {answer}" for k in range(6) for n, answer in
-                            enumerate(("pop 0", "cull 0 0", "modify 0", "draw 0", f"ink 0 {3 * k + 6}"))] + [f"loads {LAST}"]),
-    "loads-many": (ROOMY, START + [CORNER, many(0, 256), many(255, 1)],
-                   ["loads 3", row(0, 1), *(row(k, 2, (1, 2, 3)) for k in range(1, 257)), row(257, 3, (1, 2, 3))]),
-    # Of ten numbers each, eleven rows would fit.
-    "rows-of-eleven": ([110 if a == 7 else n for a, n in enumerate(ROOMY)], START + [many(0, 11), many(0, 10), op("draw", 0, 0, 0, *DRAW), op("modify", 0, 0x10, 0),
-                                                                                   op("lend", 7, 109), op("ink", 0), op("lend", 7, 110), op("ink", COLOUR)],
-                       ["2 load 9 7", "3 load 0 0", "5 modify 9 7", "7 ink 8 7", "9 ink 0 3", "loads 1"]),
-    "one-word-short": ([n - 1 if a == 7 else n for a, n in enumerate(entries(7, 3))], CORNERS, ["3 load 0 0", "4 load 9 7", "loads 2"]),
-}
-ALL = {**{name: (ROOMY, *case) for name, case in (CASES | ROUNDED | ORDER | ACTS | EXPLAINED).items()}, **TIGHT, **NUMBERED}
+ALL = {**{name: (ROOMY, *case) for name, case in (CASES | ROUNDED | ORDER | ACTS | EXPLAINED).items()}, **TIGHT}
 # Under GST2.
 SECOND = {**{name: tracefile.made_for(2, 6, 10) for name in ("14-lit-and-unlit", "15-recoloured", "second-header")},
           **{name: tracefile.made_for(2, 6, 9, 10) for name in ("inexact-count", "inexact-not-appended")},
-          **{name: tracefile.made_for(2, 4, 6, 9, 10) for name in EXPLAINED},
-          **{name: tracefile.made_for(2, 3, 4, 6, 9, 10) for name in NUMBERED}}
+          **{name: tracefile.made_for(2, 4, 6, 9, 10) for name in EXPLAINED}}
 
 
 def scripts():

@@ -234,7 +234,7 @@ def misfits(text):
                 ("a sentence", "replay: the header is cut short\n"))
     yield from ((line, instead(k, line)) for k, line in (
         (1, "1 force 0 0"), (1, "2 matrix 0 0"), (1, "1 matrix 0"), (1, "1 matrix 0 17"), (1, "1 matrix 0 x"), (1, "1 matrix 6 0"), (1, "1 matrix"),
-        (2, "2 load 0 2"), (2, "2 load 1 1 1"), (2, "2 load 8 10"), (2, "2 load 9 11"), (2, "2 load 9 10 1"), (2, "2 load 9 0"), (5, "5 draw 6 3"), (5, "5 draw 0 0"), (5, "5 draw 11"), (5, "5 draw 8 10"), (5, "5 draw 9 10"), (6, "6 explain 0"),
+        (2, "2 load 0 2"), (2, "2 load 1 1 1"), (5, "5 draw 6 3"), (5, "5 draw 0 0"), (5, "5 draw 11"), (5, "5 draw 8 10"), (6, "6 explain 0"),
         (6, "6 explain 0 1 4"), (6, "6 explain 0 0 0 0 0 3"), (6, "6 explain 0 0 0 0 0"), (6, "6 explain 0 2 0"), (6, "6 explain 2 0 3"), (6, "6 explain 3 3"),
         (6, "6 explain 8 1"), (6, "6 cull 0 0"), (6, " 6 explain 0 1 1")))
 

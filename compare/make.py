@@ -8,8 +8,7 @@ Kinds: domain (REFERENCE 18), numbers (there too: conversions and roundings),
 culled (there too: slots in a row outside the side planes, most of them),
 refusal (bad arguments, short data, short and full areas), forged (state and areas tampered with),
 edge (areas that fit exactly or lack one number).
-Explain is strewn in, at every cull test and elsewhere; outside the domain loads are that find no number left, and in refusal and forged
-loads with numbers near the last and near the first; and the header is GST2. With --plain none of it is so.
+Explain is strewn in, at every cull test and elsewhere, and the header is GST2; with --plain neither is so.
 The same kind, seed and size make the same bytes.
 """
 import argparse
@@ -28,7 +27,7 @@ BITS = (LIGHTING, TEXGEN, LINEAR, FOG, FRONT, BACK)
 WORDS = (0, 1, 2, 255, 256, 257, 0x7FFF, 0x8000, 0xFFFF, 0x10000, 0x00FFFFFF, 0x01000001, 0x01000003, 0x7FFFFFFF, 0x80000000,
          0x80000080, 0xFFE00040, 0x0004FFFE, 0xFFFFFF7F, 0xFFFFFF80, 0xFFFFFFFF)
 ALL = 0xFFFFFFFF
-REQUESTS = tracefile.made_for(2, 3, 4, 6, 9, 10)
+REQUESTS = tracefile.made_for(2, 4, 6, 9, 10)
 
 
 def shared(codes):
@@ -464,18 +463,14 @@ SQUEEZED = (((1, 3, 4, 5, 6, 7), (Maker.load, Maker.load, bad_load, Maker.lit_sc
             ((8, 9), (Maker.draw, Maker.draw, bad_slots)), ((7, 8), (Maker.ink,)), ((1, 2), (Maker.matrix, Maker.pop, Maker.viewport, bad_data)))
 
 
-def short_and_wrong(m, among=SQUEEZED):
+def short_and_wrong(m):
     """Areas at or below what is in use, and commands that are wrong in other ways too."""
-    tables, acts = m.rng.choice(among)
+    tables, acts = m.rng.choice(SQUEEZED)
     squeeze(m, *tables)
     for _ in range(m.rng.randint(1, 3)):
         m.rng.choice(acts)(m)
     if m.rng.random() < 0.8:
         lend_all(m)
-
-
-def squeezed_load(m):
-    short_and_wrong(m, SQUEEZED[:1])
 
 
 def unseen(m):
@@ -592,28 +587,6 @@ def write_run(m):
         m.draw()
 
 
-def load_none(m):
-    m.load_of(m.rng.choice((0, 255, 256, m.rng.randrange(257))), 0)
-
-
-def numbered(m):
-    """Loads whose numbers are near the last, near the first or anywhere; most often the number goes on afterwards where it was."""
-    before = m.state.loads
-    m.do("poke", 5, m.rng.choice((0, 0, 0, 5, ALL)), m.rng.choice((ALL, ALL, ALL - 1, ALL - 1, ALL - 2, 0, 1, m.word())))
-    for _ in range(m.rng.randint(2, 4)):
-        m.rng.choice((m.load, m.load, lambda: load_none(m), lambda: bad_load(m), lambda: squeezed_load(m), m.drawn_and_changed, m.ucode))()
-    if m.rng.random() < 0.9:
-        m.do("poke", 5, 0, before)
-
-
-def without_number(m, op):
-    """The same load once more where no number is left: it is refused and changes nothing."""
-    before = m.state.loads
-    m.do("poke", 5, 0, ALL)
-    m.do("load", *op.args, data=op.data)
-    m.do("poke", 5, 0, before)
-
-
 FORGED = ((poke_state, 4), (poke_in_range, 6), (poke_row, 5), (write_area, 8), (write_run, 3), (Maker.ink, 4), (bad_slots, 3),
           (lend, 2), (lend_all, 1))
 
@@ -627,8 +600,6 @@ def forged(rng, size, seed):
 
 KINDS = {"domain": domain, "numbers": numbers, "culled": culled, "refusal": refusal, "forged": forged, "edge": edge}
 SIZES = (10, 20, 40, 80, 160, 300)
-# What the original plays too has no loads of odd numbers: it has no number to set. In edge the areas have to fit.
-UNNUMBERED, NUMBERED = ("refusal", "forged", "edge"), ("refusal", "forged")
 
 
 def plain(kind, seed, size=None):
@@ -654,18 +625,13 @@ def played(script, rng):
 
 
 def make(kind, seed, size=None):
-    """One trace with explain strewn in: at each cull test by its range, there and elsewhere by others. It changes nothing, so all else fits as before.
-    Outside the domain so are loads without a number or with an odd one."""
+    """One trace with explain strewn in: at each cull test by its range, there and elsewhere by others. It changes nothing, so all else fits as before."""
     m, steps = played(plain(kind, seed, size), random.Random(f"explained {kind} {seed} {size}"))
     for op in steps:
         if op.name == "cull":
             m.do("explain", *op.args)
         if m.rng.random() < (0.6 if op.name == "cull" else 0.1):
             m.explain()
-        if kind in UNNUMBERED and op.name == "load" and m.rng.random() < 0.2:
-            without_number(m, op)
-        if kind in NUMBERED and m.rng.random() < 0.05:
-            numbered(m)
     script = tracefile.write(m.lengths, m.ops, *REQUESTS)
     return script if len(script) <= tracefile.MOST_BYTES else make(kind, seed, 40)
 

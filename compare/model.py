@@ -11,7 +11,6 @@ import tracefile
 from floats import IDENTITY, bits32, f32, point, product, show32, show64, turned, unit
 
 MOST_ENTRIES = 1048576
-MOST_LOADS, LOAD_NUMBERS = 4294967295, 10           # the last number of a load; what refusal 9 calls these
 LIGHTING, TEXGEN, LINEAR, FOG = 0x20000, 0x40000, 0x80000, 0x10000
 FRONT, BACK = 0x200, 0x400
 ATTRIBUTES = (0x10, 0x14, 0x18, 0x1C)
@@ -92,7 +91,6 @@ class State:
         self.tile = self.level = self.on = self.sc = self.tc = 0
         self.fog = (0, 0)
         self.light_count = 0
-        self.loads = 0                               # accepted since opening
         self.lights = [[0.0] * 6 for _ in range(8)]
         self.ambient = [0.0] * 3
         self.look = [[0.0] * 3, [0.0] * 3]
@@ -157,12 +155,6 @@ def judge_room(s, areas, added):
     for t, n in added:
         if s.counts[t] + n > areas.room(t):
             raise Refused(9, t)
-
-
-def judge_number(s):
-    """Whether there is a number for one load more."""
-    if s.loads >= MOST_LOADS:
-        raise Refused(9, LOAD_NUMBERS)
 
 
 def judge_row(s, slot):
@@ -390,7 +382,7 @@ def row_numbers(s, settled):
     """The u32 of a new row, its colour left to the vertex."""
     lights = (s.light_fold.first, s.light_count + 1) if settled.lit else (0, 0)
     look = s.look_fold.first if settled.texgen else 0
-    return [0, s.counts[1] - 1, s.counts[2] - 1, s.counts[3] - 1, None, *lights, settled.texgen, settled.fog, look, s.loads]
+    return [0, s.counts[1] - 1, s.counts[2] - 1, s.counts[3] - 1, None, *lights, settled.texgen, settled.fog, look]
 
 
 def clip_code(x, y, z, w):
@@ -427,9 +419,7 @@ def do_load(s, areas, args, data):
     judge_lent(s, areas, 1, 3, 4, 5, 6, 7)
     settled = Settled(s, areas)
     judge_room(s, areas, [(t, len(e)) for t, e in settled.new.items()] + [(7, count)])
-    judge_number(s)
     take_settled(s, areas, settled)
-    s.loads += 1
     numbers = row_numbers(s, settled)
     for k in range(count):
         load_vertex(s, areas, s.slots[first + k], data[16 * k:16 * k + 16], numbers)
@@ -580,8 +570,6 @@ def poke(s, field, index, value):
     elif field == 4:
         slot = s.slots[index % 256]
         slot.row, slot.ever = value, True
-    elif field == 5:
-        s.loads = value
     elif field == 7:
         s.slots[index % 256].loaded = value % 2 == 1
 
@@ -631,7 +619,6 @@ def line(*parts):
 def dump_state(s):
     yield line("counts", *s.counts[1:])
     yield line("state", s.depth, s.geom, s.ucode, int(s.defined), s.tile, s.level, s.on, s.sc, s.tc, *s.fog, s.light_count)
-    yield line("loads", s.loads)
     for k in range(min(s.depth, 32)):
         yield line("stack", k, *texts(s.stack[k]))
     yield line("proj", *texts(s.proj))

@@ -2,9 +2,8 @@
 
 Tables 1 to 3 begin differently on the two sides, so their entries and the numbers that name them are
 taken relative to the last entry at the mark, that one included. All else is compared as it stands;
-NaN is printed as `nan` on both sides. The areas, which the original has not, are left out. So are the number of
-inexact entries that matrix and force tell, the number of the load that made a row and how many loads were accepted, but
-on our side they must be there.
+NaN is printed as `nan` on both sides. The areas, which the original has not, are left out. So is the number of
+inexact entries that matrix and force tell, but on our side it must be there.
 """
 
 RELATIVE = (1, 2, 3)
@@ -12,7 +11,7 @@ TABLES = range(1, 10)
 STATE = ("depth", "geometry", "microcode", "defined", "tile", "level", "on", "sc", "tc", "fog multiplier",
          "fog offset", "light count")
 ROW = ("x", "y", "z", "s", "t", "screen 0", "screen 1", "screen 2", "screen 3", "flags", "matrix", "viewport",
-       "scale", "colour", "first light", "light count", "texgen", "fog", "lookat")          # and the load's number, which is ours alone
+       "scale", "colour", "first light", "light count", "texgen", "fog", "lookat")
 RUN = ("material", "render mode", "fog colour", "primitive depth", "cull", "unclipped", "start", "count")
 SLOT = ("row", "loaded", "drawn", "code", "depth")
 NAMES = {"state": STATE, "t7": ROW, "t9": RUN, "slot": SLOT}
@@ -28,9 +27,9 @@ class Unreadable(Exception):
 
 
 class Output:
-    """One output, taken apart: answers, and the dump's lines by their first word, our numbers of loads skipped."""
+    """One output, taken apart: answers, and the dump's lines by their first word."""
 
-    def __init__(self, text, ours):
+    def __init__(self, text):
         lines = text.split("\n")
         if "end" not in lines or lines[-1] != "":
             raise Unreadable("the output does not end as an output does")
@@ -42,20 +41,7 @@ class Output:
             self.dump.setdefault(kind, []).append(rest)
         if self.dump.get("open") != [["1"]]:
             raise Unreadable("not open at the end")
-        if ours:
-            self.skip_loads()
         self.base = self.bases()
-
-    def skip_loads(self):
-        """Takes out what the original has not: how many loads were accepted, which the answers say too, and each row's number, of one of these."""
-        accepted = sum(1 for a in self.answers if a.split(" ")[1:3] == ["load", "0"])
-        numbers, rows = {(str(n + 1),) for n in range(accepted)}, self.dump.get("t7", [])
-        if self.dump.pop("loads", None) != [[str(accepted)]]:
-            raise Unreadable(f"no line of {accepted} accepted loads")
-        if not all(tuple(row[1 + len(ROW):]) in numbers for row in rows):
-            raise Unreadable("a row without the number of an accepted load")
-        for row in rows:
-            del row[1 + len(ROW):]
 
     def bases(self):
         marks = [a.split(" ")[3:] for a in self.answers if a.split(" ")[1:3] == ["mark", "0"]]
@@ -157,7 +143,6 @@ def in_corners(a, b):
 
 
 def in_dump(a, b):
-    yield from (f"{kind}: only on one side" for kind in sorted(a.dump.keys() ^ b.dump.keys()) if kind != "area")
     yield from fields("counts", "", a.counts(), b.counts())
     yield from fields("state", "", a.dump["state"][0], b.dump["state"][0])
     for kind in ("stack", "proj", "vp", "light", "ambient", "look"):
@@ -179,7 +164,7 @@ def in_slots(a, b):
 def differences(ours, theirs):
     """Every difference, in words: ours against the original's."""
     try:
-        a, b = Output(ours, True), Output(theirs, False)
+        a, b = Output(ours), Output(theirs)
         return [*in_answers(a, b), *in_dump(a, b), *in_corners(a, b)]
     except (Unreadable, KeyError, IndexError, ValueError) as fault:
         return [f"cannot be compared: {type(fault).__name__} {fault}"]

@@ -5,7 +5,6 @@ PLANES = (("left", "x < -w"), ("right", "x > w"), ("bottom", "y < -w"), ("top", 
 TABLES = ("matrices", "viewports", "texture scales", "lights", "lookat", "fog", "rows", "indices", "runs")
 ATTRIBUTES = (0x10, 0x14, 0x18, 0x1C)
 SLOTS = 256
-LOAD_NUMBERS = 10                      # what 9 calls the numbers of loads, which are no table
 RANGED = ("cull", "explain")
 # Which numbers each op can answer with, from the table of REFERENCE 3.2.
 NUMBERS = {"open": (0, 9), "matrix": (0, 7, 8, 9, 10), "force": (0, 7, 8, 9, 10), "pop": (0, 8, 9, 10), "geom": (0, 10),
@@ -139,14 +138,6 @@ def is_table(op, *values):
     return len(values) == 1 and 1 <= values[0] <= len(TABLES)
 
 
-def is_full(op, *values):
-    return is_table(op, *values) or op.name == "load" and values == (LOAD_NUMBERS,)
-
-
-def of_room(op, t):
-    return f"no number is left for one load more (table {t})" if t == LOAD_NUMBERS else f"{table(t)} has no room for what would be appended"
-
-
 REFUSED = {
     1: (lambda op, *values: values == (op.args[1], op.args[0]), lambda op, count, first: f"{count} vertices from slot {first} on do not fit in {SLOTS} slots"),
     2: (lambda op, *values: values == tuple(op.args), of_range),
@@ -156,7 +147,7 @@ REFUSED = {
     6: (is_asked, of_slot("was never loaded since opening")),
     7: (lambda op, *values: len(values) == 1 and values[0] > len(op.data), lambda op, need: f"{need} bytes of data are needed, and there are {len(op.data)}"),
     8: (is_table, lambda op, t: f"what is lent of {table(t)} is less than its entries in use"),
-    9: (is_full, of_room),
+    9: (is_table, lambda op, t: f"{table(t)} has no room for what would be appended"),
     10: (are(0), of_state),
 }
 
@@ -179,24 +170,6 @@ def numbers(k, op, line):
     return [int(n) for n in found[1].split()]
 
 
-def loads(ops, given):
-    """How many loads were accepted since opening, after each command; a poke of field 5 sets it."""
-    n = 0
-    for op, (number, *_) in zip(ops, given):
-        if op.name == "open":
-            n = 0
-        elif op.name == "poke" and op.args[0] == 5:
-            n = op.args[2]
-        else:
-            n += op.name == "load" and number == 0
-        yield n
-
-
-def with_load(op, number, text, n):
-    """The sentence, of a load that is done with its number."""
-    return text.replace("done", f"done, load number {n}", 1) if op.name == "load" and number == 0 else text
-
-
 def answers(ops, output):
     """The answers to these commands in words, from what a program printed for them."""
     lines = output.split("\n")
@@ -205,5 +178,4 @@ def answers(ops, output):
         raise Unfit(f"it has {given} answers, and the trace {len(ops)} ops")
     if not re.search(r"\narea 9 [0-9]+\n\Z", output):
         raise Unfit("it does not end in a whole dump")
-    given = [numbers(k, op, line) for k, (op, line) in enumerate(zip(ops, lines))]
-    return [with_load(op, told[0], answer(op, *told), n) for op, told, n in zip(ops, given, loads(ops, given))]
+    return [answer(op, *numbers(k, op, line)) for k, (op, line) in enumerate(zip(ops, lines))]

@@ -4,8 +4,7 @@ import struct
 # Letters of a header: how many words of requests follow, a bit for each request, and how many lengths.
 # Of GST2 the requests and the lengths past the areas' are not looked at.
 HEADERS = {b"GST1": (0, 10), b"GST2": (1, 13)}
-ROW_FLOATS, ROW_WORDS = 9, 11                      # of a row
-WIDTHS = (16, 6, 4, 6, 6, 2, ROW_FLOATS, ROW_WORDS, 1, 8)     # numbers per entry, by area
+WIDTHS = (16, 6, 4, 6, 6, 2, 9, 10, 1, 8)          # numbers per entry, by area
 F32_AREAS = (0, 1, 2, 3, 4, 6)
 I16_AREA = 5
 WRITTEN = (5, 7, 8, 9)                             # where `write` stores

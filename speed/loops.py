@@ -45,13 +45,11 @@ fn sum_f32(s: &[f32], n: usize) -> u32 {
     h
 }
 
-// Two numbers of a row are left out of the sum: the scale's place, which the original holds apart, and the load's number,
-// which it has not.
+// The scale's place, which the original holds apart, is left out of the sum.
 fn sum_words(words: &[u32], rows: usize) -> u32 {
-    let mut h = sum_u32(words, rows * 11);
+    let mut h = sum_u32(words, rows * 10);
     for i in 0..rows {
-        h = std::num::wrapping_sub_u32(h, words[i * 11 + 3]);
-        h = std::num::wrapping_sub_u32(h, words[i * 11 + 10]);
+        h = std::num::wrapping_sub_u32(h, words[i * 10 + 3]);
     }
     h
 }
@@ -64,7 +62,7 @@ fn main() {
     let mut lookats = [0.0f32; 4096];
     let mut fogs = [0i16; 64];
     let mut floats = [0.0f32; 147456];
-    let mut words = [0u32; 180224];
+    let mut words = [0u32; 163840];
     let mut indices = [0u32; 98304];
     let mut runs = [0u32; 32768];
     let mut bytes = [0u8; 9216];

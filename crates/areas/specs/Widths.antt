@@ -1,15 +1,10 @@
--- How many numbers an entry of each table has, what a row's and a run's numbers are, how many entries a table has at the most, and how many loads
--- there are at the most.
+-- How many numbers an entry of each table has, what a row's and a run's numbers are, and how many entries a table has at the most.
 -- Definitions only: each number is named here, and nowhere else.
 use Rattle.std.specs.Prelude.{ℕ}
 
 -- the most entries of a table
 abbrev pub most : ℕ
 most = 1048576
-
--- the most loads: their numbers are from 1 on, and the last fills a u32
-abbrev pub most_loads : ℕ
-most_loads = 4294967295
 
 -- ---- numbers an entry, by table
 
@@ -43,7 +38,7 @@ float_width = 9
 
 -- 7: the u32 of a row
 abbrev pub word_width : ℕ
-word_width = 11
+word_width = 10
 
 -- 8: one u32, a row
 abbrev pub index_width : ℕ
@@ -91,10 +86,6 @@ fog_word = 8
 -- the number of its entry in table 5
 abbrev pub lookat_word : ℕ
 lookat_word = 9
-
--- the number of the load that made it
-abbrev pub load_word : ℕ
-load_word = 10
 
 -- ---- the f32 of a row, by place: the position x y z from 0 on
 

@@ -1,11 +1,8 @@
-// How many numbers an entry of each table has, what a row's and a run's numbers are, how many entries a table has at the
-// most, and how many loads there are: the numbers of specs/Widths.antt, by the same names.
+// How many numbers an entry of each table has, what a row's and a run's numbers are, and how many entries a table has at
+// the most: the numbers of specs/Widths.antt, by the same names.
 
 // The most entries of a table.
 pub const MOST: u32 = 1_048_576;
-
-// The most loads: their numbers are from 1 on.
-pub const MOST_LOADS: u32 = 4_294_967_295;
 
 // Numbers an entry, by table, 1 to 9; a row has f32 and u32.
 pub const MATRIX_WIDTH: u32 = 16;
@@ -22,7 +19,7 @@ pub const FOG_WIDTH: u32 = 2;
 
 pub const FLOAT_WIDTH: u32 = 9;
 
-pub const WORD_WIDTH: u32 = 11;
+pub const WORD_WIDTH: u32 = 10;
 
 pub const INDEX_WIDTH: u32 = 1;
 
@@ -48,8 +45,6 @@ pub const TEXGEN_WORD: usize = 7;
 pub const FOG_WORD: usize = 8;
 
 pub const LOOKAT_WORD: usize = 9;
-
-pub const LOAD_WORD: usize = 10;
 
 // The f32 of a row, by place: the position from 0 on, s and t, the screen numbers.
 pub const S_FLOAT: usize = 3;

@@ -12,7 +12,7 @@ use lib.Dec.{eqb}
 use lib.Ieee.{Float}
 use borrow.Author.Tests.{eqb-true, eqb-false, ne_eqb}
 use Rattle.numbers.specs.Choice.{pick}
-use Rattle.areas.specs.Widths.{float_width, word_width, flags_word, matrix_word, viewport_word, scale_word, colour_word, light_word, lights_word, texgen_word, fog_word, lookat_word, load_word, s_float, t_float, screen_x, screen_y, screen_z}
+use Rattle.areas.specs.Widths.{float_width, word_width, flags_word, matrix_word, viewport_word, scale_word, colour_word, light_word, lights_word, texgen_word, fog_word, lookat_word, s_float, t_float, screen_x, screen_y, screen_z}
 use Rattle.change.specs.declared.Change.{Change}
 use Rattle.change.specs.declared.Change.TheVariants.{Colour, Texture, Screen, Depth}
 use Rattle.change.specs.Decoded.{floats_after, words_after}
@@ -102,14 +102,6 @@ word_stores (Colour w) u flags = (colour_word, w) ∷ (light_word, 0) ∷ (light
 word_stores (Texture s t) u flags = (scale_word, u) ∷ (texgen_word, 0) ∷ (lookat_word, 0) ∷ []
 word_stores (Screen x y) u flags = (flags_word, bit_or flags 1) ∷ []
 word_stores (Depth z own) u flags = (flags_word, bit_or flags 2) ∷ []
-
--- A CHANGE KEEPS THE NUMBER OF THE LOAD that made the row
-pub load_kept : (c : Change) (u : ℕ) (l : List ℕ) → get_or (words_after c u l) load_word 0 ≡ get_or l load_word 0
-unfolding words_after
-load_kept (Colour w) u l = unwritten (word_stores (Colour w) u (get_or l flags_word 0)) l load_word 0 refl
-load_kept (Texture s t) u l = unwritten (word_stores (Texture s t) u (get_or l flags_word 0)) l load_word 0 refl
-load_kept (Screen x y) u l = unwritten (word_stores (Screen x y) u (get_or l flags_word 0)) l load_word 0 refl
-load_kept (Depth z own) u l = unwritten (word_stores (Depth z own) u (get_or l flags_word 0)) l load_word 0 refl
 
 -- a change is its stores
 pub floats-are : (c : Change) (l : List Float) → floats_after c l ≡ stores (float_stores c) l

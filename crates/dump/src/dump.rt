@@ -20,12 +20,6 @@ fn settings(s: State) {
     show::end();
 }
 
-fn loads_line(loads: u32) {
-    show::text(b"loads");
-    show::word(loads);
-    show::end();
-}
-
 fn line(name: &[u8], xs: &[f32]) {
     show::text(name);
     tables::singles(xs, 0, xs.len());
@@ -68,7 +62,6 @@ fn state_lines(s: State) {
     let colours = s.lights.colours;
     let ambient = s.lights.ambient;
     settings(s);
-    loads_line(s.loads);
     tables::of_singles(b"stack", &stack, 16, s.depth);
     view_lines(projection, viewport);
     light_lines(directions, colours);

@@ -1,14 +1,12 @@
 -- A RECORDED TRIANGLE IS FINISHED: `finished`, at the end, and its companions. Assumes nothing.
 use mathlib.Core.Path.{◌≡◌, refl, sym, ap, ◌∙◌, subst}
 use Prim.Native.Nat.{ℕ, ◌+◌, ◌*◌, ◌≤◌, ◌<◌}
-use native.Mathlib.Nat.{zero-add}
 use native.Mathlib.Omega.{arith}
 use mathlib.Core.Bool.{Bool, true, false, ◌&&◌, false≢true}
 use mathlib.Core.List.{List, [], ◌∷◌, ◌++◌, map, append_assoc}
 use lib.ListN.{length, get_or, length-replicate}
-use lib.Dec.{leb, ltb}
-use lib.Seq.{get_or-append_seam}
-use borrow.Author.Tests.{leb-true, ltb-true}
+use lib.Dec.{leb}
+use borrow.Author.Tests.{leb-true}
 use Rattle.areas.specs.Area.{room}
 use Rattle.areas.specs.Widths.{matrix_width, viewport_width, index_width}
 use Rattle.areas.proofs.Tables.{length-entries}
@@ -16,13 +14,10 @@ use Rattle.decide.specs.declared.family.Family.{Family}
 use Rattle.change.specs.declared.Asked.{Asked}
 use Rattle.change.specs.declared.Asked.TheVariants.{Known, Unknown}
 use Rattle.change.specs.Decoded.{decoded}
-use Rattle.triangle.specs.Slot.{held, both, swaps}
+use Rattle.triangle.specs.Slot.{both}
 use Rattle.stage.specs.declared.State.{State}
 use Rattle.stage.specs.declared.settings.Microcode.{Microcode}
 use Rattle.ink.specs.Ink.{ink_of}
-use Rattle.loads.specs.Loads.{load_of}
-use Rattle.loads.specs.declared.Made.{Made}
-use Rattle.loads.specs.declared.Made.TheVariants.{By}
 use Rattle.stage.specs.Plan.{keep, Edits, Plan, refuse, does, pick, lent, carry, row_words}
 use Rattle.stage.specs.Sound.{state_sound}
 use Rattle.stage.specs.Modify.{ink_plan}
@@ -32,21 +27,18 @@ use Rattle.stage.specs.Draw.{row_of}
 use Rattle.stage.proofs.Judged.{and_left, and_right}
 use Rattle.sequence.specs.Sequence.{Command, matrix, force, pop, viewport, geometry, texture, fog, number, light, lookat, microcode, load, cull, explain, depth, modify, draw, ink, Areas, Port, Book, Alike, book, plan, after_all, result, step, run, is_done, accepted, opening}
 use Rattle.sequence.proofs.Turn.{enter, turn, course}
-use Rattle.sequence.proofs.Accepts.{Accepted, on-does, on-unless, on-judge, on-draw}
-use Rattle.sequence.proofs.Held.{Fits, step-book, run-book, run-append}
+use Rattle.sequence.proofs.Accepts.{Accepted, on-does, on-unless, on-judge}
+use Rattle.sequence.proofs.Held.{Fits, step-book, run-book}
 use Rattle.sequence.proofs.Opened.{opened-book, opened-alike, open-book, open-refused, shut, run-shut, shut-plan}
-use Rattle.finished.specs.Shown.{Corner, Triangle, entries_of, named, corner_of, triangle_of, triangle_at}
-use Rattle.finished.specs.Settings.{Settings}
-use Rattle.finished.specs.Bench.{Bench, bench0, no_corner, moved, turns, pops, modifies, with_triangle, turned_as, given, draws, act, bench}
+use Rattle.finished.specs.Shown.{Triangle, triangle_of}
+use Rattle.finished.specs.Bench.{Bench, bench0, no_corner, moved, turns, pops, modifies, with_triangle, given, draws, act, bench}
 use Rattle.finished.specs.Statement.{after, beside, recorded, no_triangle, gave, Stands, Finished, Demand3, OneRun, RunOf}
 use Rattle.finished.specs.Inked.{inked_in, InkTells, InkStays}
-use Rattle.finished.specs.Filled.{loads_in, filled_by, lookups, LoadsCounted, LoadTold}
 use Rattle.finished.proofs.Lists.{Longer, same, with-more, longer-length, longer-at, none-marked, pick-case, pick-false}
 use Rattle.finished.proofs.Ties.{settings_of, Inv}
 use Rattle.finished.proofs.Keeps.{Keeps, keeps}
 use Rattle.finished.proofs.Owned.{tiled-one, own, own_held, own-settings}
 use Rattle.finished.proofs.Inked.{inked-longer, standing-ink}
-use Rattle.finished.proofs.Filled.{slot-tied, slot-empty, fill-loads, look-shown, turned-map}
 
 module _ (F : ℕ → Family) (limit : State → ℕ) where
   -- ---- which commands are accepted
@@ -182,7 +174,6 @@ module _ (F : ℕ → Family) (limit : State → ℕ) where
               lookat = λ e. absurd (false≢true e);
               mark = refl;
               unit = λ e. absurd (e refl);
-              loads = refl;
             };
             standing = record {
               full = record {
@@ -386,126 +377,6 @@ module _ (F : ℕ → Family) (limit : State → ℕ) where
         let q : p.state.opened ≡ false = ap (λ (r : Port). r.state.opened) (run-shut F limit cs (opening l) (ap (λ (r : Port). r.state.opened) e) ∙ e) in
         absurd (false≢true (sym (ap is_done (shut-plan F limit (ink colour) (book p) q)) ∙ h)))
 
-    -- ---- which load made a corner
-
-    -- what an accepted plan owes, whatever it tells and leaves
-    owes : (A : Type 0) (q : Plan) → is_done q ≡ true → Accepted (λ (vs : List ℕ) (t : State) (e : Edits). A) q → A
-    unfolding Accepted
-    owes A (refuse n vs) h a = absurd (false≢true h)
-    owes A (does vs t e) h a = a
-
-    -- a load is counted where it is accepted, by the stage as by the bench
-    loads-counted : (l : Areas) (cs : List Command) → (after (plan F limit) l cs).state.loads ≡ loads_in (accepted (plan F limit) cs (opening l))
-    unfolding book blank accepted
-    loads-counted l cs =
-        by-opening ((after (plan F limit) l cs).state.loads ≡ loads_in (accepted (plan F limit) cs (opening l))) l
-        (λ o. sym (after-inv l o cs).ties.current.loads ∙ (slot-tied F seats 0 (accepted (plan F limit) cs (opening l)) (bench0 seats) _ (slot-empty seats 0)).loads ∙ fill-loads 0 (accepted (plan F limit) cs (opening l)) _ ∙ zero-add (loads_in (accepted (plan F limit) cs (opening l))))
-        (λ e.
-        let o : (opening l).state.opened ≡ false = ap (λ (p : Port). p.state.opened) e in
-        ap (λ (p : Port). p.state.loads) (run-shut F limit cs (opening l) o ∙ e) ∙ sym (ap loads_in (accepted-shut cs (opening l) o)))
-
-    module _ (l : Areas) (cs es : List Command) (a b c material mode colour prim : ℕ) where
-      abbrev d : Command
-      d = draw a b c material mode colour prim
-
-      abbrev p : Port
-      p = after (plan F limit) l cs
-
-      abbrev h : Bench
-      h = beside F (plan F limit) seats l cs
-
-      abbrev f : Family
-      f = F h.settings.modes.microcode
-
-      abbrev T : Triangle
-      T = given f h a b c (material ∷ mode ∷ colour ∷ prim ∷ [])
-
-      -- a draw that does not find both sides culled names three seats
-      abbrev Seated : Type 0
-      Seated = (a < seats) × (b < seats) × (c < seats)
-
-      seat : (i : ℕ) → held (limit p.state) p.state.ever i ≡ true → i < seats
-      unfolding held
-      seat i e = omega (arith, ltb-true i (limit p.state) (and_left (ltb i (limit p.state)) (get_or p.state.ever i false) e), inside p.state)
-
-      names-seats : is_done (plan F limit d (book p)) ≡ true → both (F p.state.microcode) p.state.geometry ≡ false → Seated
-      unfolding plan book
-      names-seats y n =
-          owes Seated (plan F limit d (book p)) y
-          (on-draw (λ (vs : List ℕ) (t : State) (e : Edits). Seated) (F p.state.microcode) (limit p.state) p.state (book p).drawing.indices (book p).drawing.runs a b c (material ∷ mode ∷ colour ∷ prim ∷ [])
-          (λ e. absurd (false≢true (sym n ∙ e)))
-          (λ _ H _ _ _. (seat a H.0, seat b H.1.0, seat c H.1.1.0)))
-
-      -- a bench that gives more for it gives the triangle behind what it gave before, and the draw is accepted
-      gives : (x y : Bool) → is_done (plan F limit d (book p)) ≡ x → both f h.settings.modes.geometry ≡ y
-          → length h.triangles < length (bench F (pick x (d ∷ []) []) h).triangles
-          → ((bench F (pick x (d ∷ []) []) h).triangles ≡ h.triangles ++ T ∷ []) × (is_done (plan F limit d (book p)) ≡ true) × (both f h.settings.modes.geometry ≡ false)
-      unfolding bench act draws pick
-      gives false y e q m = absurd (omega arith)
-      gives true true e q m = absurd (let z : length h.triangles < length h.triangles = rw q at m in omega arith)
-      gives true false e q m = (rw q, e, q)
-
-      -- the bench beside the draw
-      drawn-beside : beside F (plan F limit) seats l (cs ++ d ∷ []) ≡ bench F (pick (is_done (plan F limit d (book p))) (d ∷ []) []) h
-      unfolding accepted
-      drawn-beside =
-          ap (λ (x : List Command). bench F x (bench0 seats)) (accepted-append cs (d ∷ []) (opening l))
-          ∙ bench-append (accepted (plan F limit) cs (opening l)) (accepted (plan F limit) (d ∷ []) p) (bench0 seats)
-
-      drawn-after : after (plan F limit) l (cs ++ d ∷ []) ≡ step (plan F limit) d p
-      unfolding run
-      drawn-after = run-append F limit cs (d ∷ []) (opening l)
-
-      -- the load of a slot's corner, as the bench holds it
-      slot-load : (i : ℕ) → i < seats → (get_or h.slots i no_corner).load ≡ filled_by i (accepted (plan F limit) cs (opening l))
-      slot-load i k = (slot-tied F seats i (accepted (plan F limit) cs (opening l)) (bench0 seats) (record { loads = 0; last = 0 }) (slot-empty seats i)).last k
-
-      -- the corner's load, as a lookup tells it
-      abbrev tells : Corner → Made
-      tells v = By v.load
-
-      -- at the end
-      abbrev q : Port
-      q = after (plan F limit) l (cs ++ d ∷ es)
-
-      looks : Opens l → (n : ℕ) → n < recorded q → lookups q n ≡ map tells (triangle_at (book q) n).corners
-      unfolding book triangle_of
-      looks o n k =
-          let I = after-inv l o (cs ++ d ∷ es) in
-          let fit = (run-book F limit (cs ++ d ∷ es) (opening l) (open-book l o.0 o.1).0).0.words in
-          let low : 3 * n + 3 ≤ length (book q).drawing.indices.used = omega (arith, k, recorded-is l (cs ++ d ∷ es), I.ties.standing.count) in
-          let look : (j : ℕ) → j < length (book q).drawing.indices.used → load_of q.areas.words q.state.counts.rows (named (book q).drawing.indices.used j) ≡ tells (corner_of (entries_of (book q)) (book q).rows.used (book q).drawing.indices.used j) =
-          λ j z. look-shown (entries_of (book q)) q.areas.floats q.areas.words q.state.counts.rows (book q).drawing.indices.used j fit (rw I.count.rows at (I.ties.standing.used j z)) in
-          λ i. look (3 * n) (omega arith) i ∷ look (3 * n + 1) (omega arith) i ∷ look (3 * n + 2) (omega arith) i ∷ []
-
-      -- what the accepted commands say of a slot
-      abbrev filler : ℕ → Made
-      filler i = By (filled_by i (accepted (plan F limit) cs (opening l)))
-
-      loads-told : recorded p < recorded (step (plan F limit) d p) → lookups q (recorded p) ≡ turned_as (swaps (F p.state.microcode) p.state.geometry) (filler a) (filler b) (filler c)
-      loads-told r =
-          let n : ℕ = recorded p in
-          let longer : length h.triangles < length (bench F (pick (is_done (plan F limit d (book p))) (d ∷ []) []) h).triangles =
-          omega (arith, r, recorded-is l cs, recorded-is l (cs ++ d ∷ []), ap recorded drawn-after, ap (λ (g : Bench). length g.triangles) drawn-beside) in
-          let G = gives _ _ refl refl longer in
-          let more : n < length (beside F (plan F limit) seats l (cs ++ d ∷ [])).triangles = omega (arith, longer, recorded-is l cs, ap (λ (g : Bench). length g.triangles) drawn-beside) in
-          let is : gave (beside F (plan F limit) seats l (cs ++ d ∷ [])) n ≡ T =
-          ap (λ (g : Bench). gave g n) drawn-beside
-          ∙ ap (λ (x : List Triangle). get_or x n no_triangle) G.0
-          ∙ ap (λ (k : ℕ). get_or (h.triangles ++ T ∷ []) k no_triangle) (recorded-is l cs)
-          ∙ get_or-append_seam h.triangles T [] no_triangle in
-          by-opening (lookups q n ≡ turned_as (swaps (F p.state.microcode) p.state.geometry) (filler a) (filler b) (filler c)) l
-          (λ o.
-          let s : settings_of p.state ≡ h.settings = settings-are l o cs in
-          let K = names-seats G.1 (ap (λ (x : Settings). both (F x.modes.microcode) x.modes.geometry) s ∙ G.2) in
-          let S : Stands q n T = subst (Stands q n) is (subst (λ (x : List Command). Stands (after (plan F limit) l x) n (gave (beside F (plan F limit) seats l (cs ++ d ∷ [])) n)) (append_assoc cs (d ∷ []) es) (stands-later l o (cs ++ d ∷ []) es n more)) in
-          looks o n S.in_use
-          ∙ ap (λ (x : Triangle). map tells x.corners) S.shows
-          ∙ turned-map tells (swaps f h.settings.modes.geometry) (get_or h.slots a no_corner) (get_or h.slots b no_corner) (get_or h.slots c no_corner)
-          ∙ ap (λ (x : Settings). turned_as (swaps (F x.modes.microcode) x.modes.geometry) (tells (get_or h.slots a no_corner)) (tells (get_or h.slots b no_corner)) (tells (get_or h.slots c no_corner))) (sym s)
-          ∙ λ i. turned_as (swaps (F p.state.microcode) p.state.geometry) (By (slot-load a K.0 i)) (By (slot-load b K.1 i)) (By (slot-load c K.2 i)))
-          (λ e. absurd (omega (arith, longer, ap (λ (g : Bench). length g.triangles) drawn-beside, ap length (refused_none l e (cs ++ d ∷ [])).1)))
-
 -- A RECORDED TRIANGLE IS FINISHED
 pub finished : Demand3
 finished F limit seats inside few x y e cs ds es n = both-stand F limit seats inside few x y e cs ds es n
@@ -513,14 +384,6 @@ finished F limit seats inside few x y e cs ds es n = both-stand F limit seats in
 -- AN INK COUNT TELLS OF WHAT WAS DRAWN
 pub ink-tells : InkTells
 ink-tells F limit seats inside few l cs colour h = inks-told F limit seats inside few l cs colour h
-
--- A LOAD TAKES A NUMBER WHERE IT IS ACCEPTED, and only then
-pub loads-are : LoadsCounted
-loads-are F limit seats inside few l cs = loads-counted F limit seats inside few l cs
-
--- A LOOKUP TELLS WHICH LOAD MADE A CORNER
-pub load_told : LoadTold
-load_told F limit seats inside few l cs es a b c material mode colour prim r = loads-told F limit seats inside few l cs es a b c material mode colour prim r
 
 -- WHAT WAS COUNTED STAYS COUNTED
 pub ink-stays : InkStays

@@ -11,7 +11,7 @@ use lib.Dec.{eqb}
 use lib.IntN.{ℤ}
 use lib.Ieee.{Float}
 use borrow.Author.Tests.{eqb-false}
-use Rattle.areas.specs.Widths.{word_width, flags_word, matrix_word, viewport_word, scale_word, colour_word, light_word, lights_word, texgen_word, fog_word, lookat_word, load_word}
+use Rattle.areas.specs.Widths.{word_width, flags_word, matrix_word, viewport_word, scale_word, colour_word, light_word, lights_word, texgen_word, fog_word, lookat_word}
 use Rattle.stage.specs.Plan.{Row, pick}
 use Rattle.finished.specs.Shown.{Entries, fog_shown, shown_by, row_word, shown}
 use Rattle.finished.proofs.Lists.{Longer, longer-length, longer-at, longer-part}
@@ -68,7 +68,6 @@ shown-stays {t} {u} r g s =
       texgen = row_word r texgen_word;
       fog = fog-stays g.fogs (row_word r fog_word) n.fog i;
       lookat = lookat-stays g.lookats (row_word r texgen_word) (row_word r lookat_word) n.lookat i;
-      load = row_word r load_word;
     }
 
 pub sound-stays : {t u : Entries} (r : Row) → Grown t u → Sound t r → Sound u r

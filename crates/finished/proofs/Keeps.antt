@@ -88,11 +88,11 @@ module _ (F : ℕ → Family) (limit : State → ℕ) (seats : ℕ) (few : seats
 
   -- no table changes, and other lights l are set
   relights : (t : State) (l : Lights)
-      → parts_of t ≡ record { columns = (parts_of k.state).columns; lights = l; lookat = k.state.lookat; unit = k.state.unit; loads = k.state.loads }
+      → parts_of t ≡ record { columns = (parts_of k.state).columns; lights = l; lookat = k.state.lookat; unit = k.state.unit }
       → (l.folded ≡ true → l.changed ≡ false → LightsAt k.lights.used l h.values.lights) → Inv seats (enter t untouched k) (sets (settings_of t) h)
   relights t l e new =
       let c = I.ties.current in
-      let x : Parts = record { columns = (parts_of k.state).columns; lights = l; lookat = k.state.lookat; unit = k.state.unit; loads = k.state.loads } in
+      let x : Parts = record { columns = (parts_of k.state).columns; lights = l; lookat = k.state.lookat; unit = k.state.unit } in
       let T : TiesOf x =
       record {
         current = record {
@@ -105,7 +105,6 @@ module _ (F : ℕ → Family) (limit : State → ℕ) (seats : ℕ) (few : seats
           lookat = c.lookat;
           mark = c.mark;
           unit = c.unit;
-          loads = c.loads;
         };
         standing = I.ties.standing;
       } in
@@ -177,7 +176,7 @@ module _ (F : ℕ → Family) (limit : State → ℕ) (seats : ℕ) (few : seats
 
   -- lights that are marked changed
   marked-keeps : (c : Command) (t : State) (l : Lights)
-      → parts_of t ≡ record { columns = (parts_of k.state).columns; lights = l; lookat = k.state.lookat; unit = k.state.unit; loads = k.state.loads } → l.changed ≡ true
+      → parts_of t ≡ record { columns = (parts_of k.state).columns; lights = l; lookat = k.state.lookat; unit = k.state.unit } → l.changed ≡ true
       → act F c h ≡ sets (settings_of t) h → Accepted (Keeps c) (does [] t untouched)
   marked-keeps c t l e m a = on-does (Keeps c) [] t untouched (rw a (relights t l e (λ _ q. absurd (false≢true (sym q ∙ m)))))
 

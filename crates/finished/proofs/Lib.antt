@@ -11,6 +11,5 @@ pub mod Modified
 pub mod Keeps
 pub mod Owned
 pub mod Inked
-pub mod Filled
 pub mod Finished
 pub mod Refuted

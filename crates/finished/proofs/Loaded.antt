@@ -35,7 +35,6 @@ pub record Shares (f : Family) (s : State) (t : Entries) (e : Shared) (h : Value
   pub texgen : e.texgen ≡ texgen_mode f s.geometry
   pub fog : (e.fog ≤ length t.fogs) × (fog_shown t.fogs e.fog ≡ pick (flag f.fog s.geometry) (some (fog_pair s)) none)
   pub lookat : texgen_mode f s.geometry ≢ 0 → (e.lookat < length t.lookats) × (get_or t.lookats e.lookat [] ≡ h.lookat)
-  pub load : e.load ≡ h.loads
 
 module _ (f : Family) (s : State) (t : Entries) (e : Shared) (h : Values) (S : Shares f s t e h) where
   -- a row of the load has its table numbers in use
@@ -74,7 +73,6 @@ module _ (f : Family) (s : State) (t : Entries) (e : Shared) (h : Values) (S : S
         texgen = S.texgen i;
         fog = S.fog.1 i;
         lookat = (ap (λ (m : ℕ). pick (eqb m 0) none (some (get_or t.lookats e.lookat []))) S.texgen ∙ looks (eqb (texgen_mode f s.geometry) 0) refl) i;
-        load = S.load i;
       }
 
   -- vertex by vertex: rows behind those in use, slots from k on

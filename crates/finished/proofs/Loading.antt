@@ -1,5 +1,5 @@
 -- Load keeps the invariant. Assumes nothing.
-use mathlib.Core.Path.{◌≡◌, refl, sym, ap, ◌∙◌}
+use mathlib.Core.Path.{◌≡◌, refl, sym, ◌∙◌}
 use Prim.Native.Nat.{ℕ, ◌+◌, ◌-◌, ◌≤◌}
 use native.Mathlib.Omega.{arith}
 use mathlib.Core.Bool.{Bool, true, false}
@@ -11,7 +11,6 @@ use borrow.Author.Tests.{ne_eqb}
 use Rattle.decide.specs.declared.family.Family.{Family}
 use Rattle.decide.specs.Family.{flag, lit, texgen_mode}
 use Rattle.fold.specs.Lights.{light_entries}
-use Rattle.loads.specs.Loads.{following}
 use Rattle.fold.proofs.Believe.{length-lights}
 use Rattle.layout.specs.declared.records.Vertex.{Vertex}
 use Rattle.matrix.specs.Math.{rows, laid}
@@ -114,7 +113,6 @@ module _ (f : Family) (seats : ℕ) (k : Book) (h : Bench) (I : Inv seats k h) (
         lookat = lookat-settled k.lookats.used _ h.values.lookat k.state.lookat (laid (model_top k.state)) k.state.counts.lookats n.lookats _ c.lookat;
         mark = c.mark;
         unit = λ z. let q = c.unit z in (omega (arith, q.0, longer-length tables.scales), longer-at tables.scales [] (k.state.unit - 1) q.0 ∙ q.1);
-        loads = ap following c.loads;
       }
 
   -- what the rows share stands in the tables
@@ -133,7 +131,6 @@ module _ (f : Family) (seats : ℕ) (k : Book) (h : Bench) (I : Inv seats k h) (
         texgen = refl;
         fog = fog-settled k.fogs.used (fog_pair k.state) (flag f.fog k.state.geometry);
         lookat = λ z. lookat-shared k.lookats.used _ h.values.lookat k.state.lookat (laid (model_top k.state)) k.state.counts.lookats n.lookats (eqb (texgen_mode f k.state.geometry) 0) _ (ne_eqb _ 0 z) c.lookat;
-        load = ap following (sym c.loads);
       }
 
   -- slots, rows and triangles then
@@ -176,7 +173,6 @@ module _ (f : Family) (seats : ℕ) (k : Book) (h : Bench) (I : Inv seats k h) (
             fills-keep (λ (y : State). y.lights) (λ _ _ _ _. refl) u m x first n vs,
             fills-keep (λ (y : State). y.lookat) (λ _ _ _ _. refl) u m x first n vs,
             fills-keep (λ (y : State). y.unit) (λ _ _ _ _. refl) u m x first n vs,
-            fills-keep (λ (y : State). y.loads) (λ _ _ _ _. refl) u m x first n vs,
           )
               current;
           standing = standing-then first fits;

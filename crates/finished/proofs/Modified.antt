@@ -229,7 +229,6 @@ module _ (limit seats : ℕ) (k : Book) (h : Bench) (I : Inv seats k h) (slot : 
         lookat = o.lookat;
         mark = ap (λ (b : Bool). b || scaled c) o.mark ∙ marked-then c k.state.unit k.state.counts.scales;
         unit = unit_then c k.state.unit k.state.counts.scales k.scales.used I.count.scales o.unit;
-        loads = o.loads;
       }
 
   -- THE INVARIANT AFTER A MODIFY

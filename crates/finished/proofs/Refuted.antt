@@ -41,7 +41,7 @@ use Rattle.finished.specs.Shown.{Triangle, shown, shown_by, settings_at, corner_
 use Rattle.finished.specs.Settings.{turned_to, lamp_to, loaded_with}
 use Rattle.finished.specs.Bench.{no_corner, bench0, turns, pops, settled_values, corner, changed_by, modifies, draws, act, bench}
 use Rattle.finished.specs.Statement.{Finished}
-use Rattle.finished.specs.Broken.{under, in_place, keeps_loaded, marks_two, shares_row, merges_runs, copies_once, loads_first, forgets_mark, stores_aside, multiplies_back, leaves_defined, renumbers_copies, numbers_from_zero, starts_anew, skips_empty}
+use Rattle.finished.specs.Broken.{under, in_place, keeps_loaded, marks_two, shares_row, merges_runs, copies_once, loads_first, forgets_mark, stores_aside, multiplies_back, leaves_defined}
 
 -- room for a few entries of each table
 areas : Areas
@@ -90,12 +90,9 @@ cell i = replicate (2 * i + 1) 0 ++ 1 ∷ replicate (62 - 2 * i) 0
 abbrev AllFinished : (Machine → Machine) → Type 0
 AllFinished b = (x y : Areas) → Alike x y → (cs ds es : List Command) (n : ℕ) → Finished family_of (b (plan family_of limit)) 256 x y cs ds es n
 
--- of a triangle: the colour of a corner, and its load; whether its first light is black; whether number i of its matrix is zero; the material
+-- of a triangle: the colour of a corner; whether its first light is black; whether number i of its matrix is zero; the material
 abbrev colour_of : ℕ → Triangle → ℕ
 colour_of i t = (get_or t.corners i no_corner).colour
-
-abbrev load_of : ℕ → Triangle → ℕ
-load_of i t = (get_or t.corners i no_corner).load
 
 abbrev black : Triangle → Bool
 black t = eq (get_or (get_or (get_or t.corners 0 no_corner).lights 0 []) 3 zero) zero
@@ -110,7 +107,7 @@ alike : Alike areas areas
 alike =
     record { matrices = refl; viewports = refl; scales = refl; lights = refl; lookats = refl; fogs = refl; floats = refl; words = refl; indices = refl; runs = refl }
 
--- THE THEOREM IS FALSE OF EACH: it refuses all fifteen
+-- THE THEOREM IS FALSE OF EACH: it refuses all eleven
 pub refuted : (AllFinished in_place → ⊥)
     × (AllFinished keeps_loaded → ⊥)
     × (AllFinished marks_two → ⊥)
@@ -122,11 +119,7 @@ pub refuted : (AllFinished in_place → ⊥)
     × (AllFinished stores_aside → ⊥)
     × (AllFinished multiplies_back → ⊥)
     × (AllFinished leaves_defined → ⊥)
-    × (AllFinished renumbers_copies → ⊥)
-    × (AllFinished numbers_from_zero → ⊥)
-    × (AllFinished starts_anew → ⊥)
-    × (AllFinished skips_empty → ⊥)
-unfolding in_place keeps_loaded marks_two shares_row merges_runs copies_once loads_first forgets_mark stores_aside multiplies_back leaves_defined renumbers_copies numbers_from_zero starts_anew skips_empty areas loaded single drawn recoloured lit white one-light cell under plan result step run accepted opening book shown shown_by settings_at corner_of triangle_of bench0 turned_to lamp_to loaded_with turns pops settled_values corner changed_by modifies draws act bench of_ratio row_times times rows laid code_of depth_of entry_at row_at matrix_at vertex_at triple_at colour_at direction_at light_at put write matches texgen_mode made pushed popped relit slotted folded light_entry directional light_entries find same_scale refold floats_of words_of clip_of slot_at slot_of vertices_at decoded floats_after words_after depth_after appends moved closed same_run held pick unless carry appended appending all state_sound blank opening_plan start.opened combine turned telling matrix_stores matrix_plan force_stores force_plan geometry_plan light_in number_plan ambient_plan slot_plan light_plan settled settled_state shared_by load_edits load_plan switched microcode_plan fill_slot fill_slots asking changed change_plan modify_plan run_edit draw_plan add mul div neg lt le eq ne
+unfolding in_place keeps_loaded marks_two shares_row merges_runs copies_once loads_first forgets_mark stores_aside multiplies_back leaves_defined areas loaded single drawn recoloured lit white one-light cell under plan result step run accepted opening book shown shown_by settings_at corner_of triangle_of bench0 turned_to lamp_to loaded_with turns pops settled_values corner changed_by modifies draws act bench of_ratio row_times times rows laid code_of depth_of entry_at row_at matrix_at vertex_at triple_at colour_at direction_at light_at put write matches texgen_mode made pushed popped relit slotted folded light_entry directional light_entries find same_scale refold floats_of words_of clip_of slot_at slot_of vertices_at decoded floats_after words_after depth_after appends moved closed same_run held pick unless carry appended appending all state_sound blank opening_plan start.opened combine turned telling matrix_stores matrix_plan force_stores force_plan geometry_plan light_in number_plan ambient_plan slot_plan light_plan settled settled_state shared_by load_edits load_plan switched microcode_plan fill_slot fill_slots asking changed change_plan modify_plan run_edit draw_plan add mul div neg lt le eq ne
 refuted = (
   λ h. let q : ◌≡◌ {A = ℕ} 0x07000000 0 = ap (colour_of 1) (h areas areas alike (loaded 0 ∷ drawn 0 ∷ []) (recoloured 1 7 ∷ []) [] 0 (omega arith)).0.shows in omega (arith, q),
   λ h. let q : ◌≡◌ {A = ℕ} 0x07000000 0 = ap (colour_of 1) (h areas areas alike (loaded 0 ∷ drawn 0 ∷ []) (microcode F3dex2 ∷ recoloured 1 7 ∷ []) [] 0 (omega arith)).0.shows in omega (arith, q),
@@ -139,8 +132,4 @@ refuted = (
   λ h. let q : ◌≡◌ {A = Bool} true false = ap black (h areas areas alike (one-light ∷ lit ∷ white ∷ loaded 0 ∷ drawn 0 ∷ []) [] [] 0 (omega arith)).0.shows in false≢true (sym q),
   λ h. let q : ◌≡◌ {A = Bool} true false = ap (empty 2) (h areas areas alike (matrix 2 (cell 1) 0 ∷ matrix 6 (cell 6) 0 ∷ loaded 0 ∷ drawn 0 ∷ []) [] [] 0 (omega arith)).0.shows in false≢true (sym q),
   λ h. let q : ◌≡◌ {A = Bool} true false = ap (empty 0) (h areas areas alike (force (cell 1) 0 ∷ microcode F3dex2 ∷ loaded 0 ∷ drawn 0 ∷ []) [] [] 0 (omega arith)).0.shows in false≢true (sym q),
-  λ h. let q : ◌≡◌ {A = ℕ} 2 1 = ap (load_of 1) (h areas areas alike (loaded 0 ∷ drawn 0 ∷ single 3 ∷ recoloured 1 7 ∷ drawn 0 ∷ []) [] [] 1 (omega arith)).0.shows in omega (arith, q),
-  λ h. let q : ◌≡◌ {A = ℕ} 0 1 = ap (load_of 0) (h areas areas alike (loaded 0 ∷ drawn 0 ∷ []) [] [] 0 (omega arith)).0.shows in omega (arith, q),
-  λ h. let q : ◌≡◌ {A = ℕ} 1 2 = ap (load_of 0) (h areas areas alike (loaded 0 ∷ microcode F3dex2 ∷ loaded 0 ∷ drawn 0 ∷ []) [] [] 0 (omega arith)).0.shows in omega (arith, q),
-  λ h. let q : ◌≡◌ {A = ℕ} 1 2 = ap (load_of 0) (h areas areas alike (load 0 0 [] 0 ∷ loaded 0 ∷ drawn 0 ∷ []) [] [] 0 (omega arith)).0.shows in omega (arith, q),
 )

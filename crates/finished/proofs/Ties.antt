@@ -33,15 +33,13 @@ pub record Parts : Type 0 where
   pub lights : Lights
   pub lookat : Lookat
   pub unit : ℕ
-  pub loads : ℕ
 
 abbrev pub parts_of : State → Parts
 parts_of s =
-    record { columns = record { row = s.row; ever = s.ever; loaded = s.loaded; drawn = s.drawn }; lights = s.lights; lookat = s.lookat; unit = s.unit; loads = s.loads }
+    record { columns = record { row = s.row; ever = s.ever; loaded = s.loaded; drawn = s.drawn }; lights = s.lights; lookat = s.lookat; unit = s.unit }
 
--- the values v that the bench holds are those last appended and folded; l the lights, folded lookat axes at a place, u the unit entry's place plus 1,
--- n the loads
-pub record Current (t : Entries) (l : Lights) (folded : Bool) (place u n : ℕ) (v : Values) : Type 0 where
+-- the values v that the bench holds are those last appended and folded; l the lights, folded lookat axes at a place, u the unit entry's place plus 1
+pub record Current (t : Entries) (l : Lights) (folded : Bool) (place u : ℕ) (v : Values) : Type 0 where
   pub some-matrix : 0 < length t.matrices
   pub matrix : v.matrix ≡ final t.matrices
   pub some-viewport : 0 < length t.viewports
@@ -51,11 +49,10 @@ pub record Current (t : Entries) (l : Lights) (folded : Bool) (place u n : ℕ) 
   pub lookat : folded ≡ true → (place < length t.lookats) × (get_or t.lookats place [] ≡ v.lookat)
   pub mark : v.unit ≡ not (eqb u 0)
   pub unit : u ≢ 0 → (u - 1 < length t.scales) × (get_or t.scales (u - 1) [] ≡ unit_entry)
-  pub loads : v.loads ≡ n
 
 -- the same, of the parts of a state
 abbrev pub CurrentIn : Entries → Parts → Values → Type 0
-CurrentIn t x v = Current t x.lights x.lookat.folded x.lookat.place x.unit x.loads v
+CurrentIn t x v = Current t x.lights x.lookat.folded x.lookat.place x.unit v
 
 -- v the bench's values, l its slots, ts what it gave
 pub record Ties (seats : ℕ) (t : Entries) (rows : List Row) (indices runs : List (List ℕ)) (x : Parts) (v : Values) (l : List Corner) (ts : List Triangle) : Type 0 where
@@ -133,7 +130,6 @@ module _ {seats : ℕ} {t : Entries} {rows : List Row} {indices runs : List (Lis
           lookat = c.lookat;
           mark = c.mark;
           unit = c.unit;
-          loads = c.loads;
         };
         standing = tables-grow I.standing
             (record { matrices = with-more t.matrices (m ∷ []); viewports = g.viewports; scales = g.scales; lights = g.lights; lookats = g.lookats; fogs = g.fogs });
@@ -162,7 +158,6 @@ module _ {seats : ℕ} {t : Entries} {rows : List Row} {indices runs : List (Lis
           lookat = c.lookat;
           mark = c.mark;
           unit = c.unit;
-          loads = c.loads;
         };
         standing = tables-grow I.standing
             (record { matrices = g.matrices; viewports = with-more t.viewports (m ∷ []); scales = g.scales; lights = g.lights; lookats = g.lookats; fogs = g.fogs });

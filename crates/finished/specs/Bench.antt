@@ -44,8 +44,6 @@ pub record Values : Type 0 where
   pub lookat : List Float
   -- the unit scale entry has been appended
   pub unit : Bool
-  -- how many loads there were
-  pub loads : ℕ
 
 -- slots, settings, values, and what was drawn
 pub record Bench : Type 0 where
@@ -56,14 +54,14 @@ pub record Bench : Type 0 where
 
 -- an empty slot, and the bench at opening
 abbrev pub no_corner : Corner
-no_corner = record { floats = []; flags = 0; matrix = []; viewport = []; scale = []; colour = 0; lights = []; texgen = 0; fog = none; lookat = none; load = 0 }
+no_corner = record { floats = []; flags = 0; matrix = []; viewport = []; scale = []; colour = 0; lights = []; texgen = 0; fog = none; lookat = none }
 
 unfoldable pub bench0 : ℕ → Bench
 bench0 seats =
     record {
       slots = replicate seats no_corner;
       settings = settings0;
-      values = record { matrix = laid identity; viewport = zeros viewport_width; scale = []; lights = []; lookat = []; unit = false; loads = 0 };
+      values = record { matrix = laid identity; viewport = zeros viewport_width; scale = []; lights = []; lookat = []; unit = false };
       triangles = [];
     }
 
@@ -75,10 +73,10 @@ renewed last new = pick (matches eq last new) last new
 
 -- values after such a rule, for a matrix or for a viewport
 abbrev pub new_matrix : Values → List Float → Values
-new_matrix v m = record { matrix = renewed v.matrix m; viewport = v.viewport; scale = v.scale; lights = v.lights; lookat = v.lookat; unit = v.unit; loads = v.loads }
+new_matrix v m = record { matrix = renewed v.matrix m; viewport = v.viewport; scale = v.scale; lights = v.lights; lookat = v.lookat; unit = v.unit }
 
 abbrev pub new_viewport : Values → List Float → Values
-new_viewport v x = record { matrix = v.matrix; viewport = renewed v.viewport x; scale = v.scale; lights = v.lights; lookat = v.lookat; unit = v.unit; loads = v.loads }
+new_viewport v x = record { matrix = v.matrix; viewport = renewed v.viewport x; scale = v.scale; lights = v.lights; lookat = v.lookat; unit = v.unit }
 
 -- a bench with other settings and values, or with other settings
 abbrev pub moved : Bench → Settings → Values → Bench
@@ -110,7 +108,7 @@ pops count h =
 abbrev pub rescaled : List Float → List Float → List Float
 rescaled last new = pick (matches eq (take 2 last) (take 2 new)) last new
 
--- what a load settles before its vertices; it is counted, whatever it loads
+-- what a load settles before its vertices
 unfoldable pub settled_values : Family → Settings → Values → Values
 settled_values f s v =
     let m = rows (laid (top_of s.space)) 0 in
@@ -121,7 +119,6 @@ settled_values f s v =
       lights = pick (lights_due f s) (light_entries m s.lights.directions s.lights.colours s.lights.ambient s.lights.number) v.lights;
       lookat = pick (lookat_due f s) (lookat_entry m s.lookat.axes) v.lookat;
       unit = v.unit;
-      loads = v.loads + 1;
     }
 
 -- a vertex by value
@@ -139,7 +136,6 @@ corner f s h v =
       texgen = texgen_mode f g;
       fog = pick (flag f.fog g) (some s.modes.fog) none;
       lookat = pick (eqb (texgen_mode f g) 0) none (some h.lookat);
-      load = h.loads;
     }
 
 -- the corners cs in the slots from k on
@@ -158,17 +154,17 @@ loads f first vs h =
 -- a corner with other floats and flags
 abbrev pub screened : Corner → List Float → ℕ → Corner
 screened v l n =
-    record { floats = l; flags = n; matrix = v.matrix; viewport = v.viewport; scale = v.scale; colour = v.colour; lights = v.lights; texgen = v.texgen; fog = v.fog; lookat = v.lookat; load = v.load }
+    record { floats = l; flags = n; matrix = v.matrix; viewport = v.viewport; scale = v.scale; colour = v.colour; lights = v.lights; texgen = v.texgen; fog = v.fog; lookat = v.lookat }
 
 -- with another colour word: the lights and the fog go
 abbrev pub inked : Corner → ℕ → Corner
 inked v w =
-    record { floats = v.floats; flags = v.flags; matrix = v.matrix; viewport = v.viewport; scale = v.scale; colour = w; lights = []; texgen = v.texgen; fog = none; lookat = v.lookat; load = v.load }
+    record { floats = v.floats; flags = v.flags; matrix = v.matrix; viewport = v.viewport; scale = v.scale; colour = w; lights = []; texgen = v.texgen; fog = none; lookat = v.lookat }
 
 -- with other floats and another scale: texgen and lookat go
 abbrev pub textured : Corner → List Float → List Float → Corner
 textured v l x =
-    record { floats = l; flags = v.flags; matrix = v.matrix; viewport = v.viewport; scale = x; colour = v.colour; lights = v.lights; texgen = 0; fog = v.fog; lookat = none; load = v.load }
+    record { floats = l; flags = v.flags; matrix = v.matrix; viewport = v.viewport; scale = x; colour = v.colour; lights = v.lights; texgen = 0; fog = v.fog; lookat = none }
 
 -- a corner with the change made in it
 unfoldable pub changed_by : Change → Corner → Corner
@@ -187,7 +183,7 @@ scaled (Depth z own) = false
 -- values with the unit scale entry last appended where b asks for it, once
 abbrev pub with_unit : Values → Bool → Values
 with_unit v b =
-    record { matrix = v.matrix; viewport = v.viewport; scale = pick (b && not v.unit) unit_entry v.scale; lights = v.lights; lookat = v.lookat; unit = v.unit || b; loads = v.loads }
+    record { matrix = v.matrix; viewport = v.viewport; scale = pick (b && not v.unit) unit_entry v.scale; lights = v.lights; lookat = v.lookat; unit = v.unit || b }
 
 -- the slot's corner changed
 unfoldable pub modifies : Asked → ℕ → Bench → Bench
@@ -197,8 +193,8 @@ modifies (Known c) slot h =
 
 -- ---- draw
 
--- three in order, or the first and the last exchanged
-abbrev pub turned_as : {A : Type 0} → Bool → A → A → A → List A
+-- three corners in order, or the first and the last exchanged
+abbrev pub turned_as : Bool → Corner → Corner → Corner → List Corner
 turned_as swap a b c = pick swap (c ∷ b ∷ a ∷ []) (a ∷ b ∷ c ∷ [])
 
 -- what a draw gives: the three slots' values, and its six settings

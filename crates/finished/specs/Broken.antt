@@ -1,14 +1,13 @@
 -- Machines that break demand 3, each the stage's own but for one rule. `refuted` of proofs/Refuted.antt: the theorem is false of each. Definitions only.
-use Rattle.std.specs.Prelude.{ℕ, ◌+◌, ◌-◌, ◌*◌, true, false, List, [], ◌∷◌, map, length, get_or, set, take, eqb, leb, Float}
+use Rattle.std.specs.Prelude.{ℕ, ◌+◌, ◌-◌, ◌*◌, true, false, List, [], ◌∷◌, length, get_or, set, take, eqb, leb, Float}
 use Rattle.areas.specs.Area.{part, put}
-use Rattle.areas.specs.Widths.{load_word}
 use Rattle.matrix.specs.Math.{times, rows, laid}
 use Rattle.decide.specs.Append.{final}
 use Rattle.triangle.specs.Run.{longer}
 use Rattle.stage.specs.declared.State.{State}
 use Rattle.stage.specs.declared.Lights.{Lights}
 use Rattle.stage.specs.Plan.{Edit, keep, grow, patch, appended, Row, Edits, Plan, refuse, does, pick}
-use Rattle.stage.specs.With.{with_row, with_ever, with_loaded, with_drawn, with_slots, with_lights, with_combined, with_defined, with_loads, marked, with_columns}
+use Rattle.stage.specs.With.{with_row, with_ever, with_loaded, with_drawn, with_slots, with_lights, with_combined, with_defined, marked, with_columns}
 use Rattle.stage.specs.Matrices.{model_top, edits1}
 use Rattle.stage.specs.Draw.{mark}
 use Rattle.sequence.specs.Sequence.{Command, matrix, force, pop, viewport, geometry, texture, fog, number, light, lookat, microcode, load, cull, explain, depth, modify, draw, ink, Book, Machine}
@@ -90,18 +89,6 @@ abbrev pub first_only : Edit Row → Edit Row
 first_only keep = keep
 first_only (grow rs) = grow (take 1 rs)
 first_only (patch j r) = patch j r
-
--- rows appended under load number n
-abbrev pub renumbered : ℕ → Edit Row → Edit Row
-renumbered n keep = keep
-renumbered n (grow rs) = grow (map (λ (r : Row). record { floats = r.floats; words = set r.words load_word n }) rs)
-renumbered n (patch j r) = patch j r
-
--- how many rows are appended
-abbrev pub appended_rows : Edit Row → ℕ
-appended_rows keep = 0
-appended_rows (grow rs) = length rs
-appended_rows (patch j r) = 0
 
 -- the first slot that a command names
 abbrev pub slot_in : List ℕ → ℕ
@@ -190,21 +177,3 @@ multiplies_back =
 -- 11. a microcode change leaves the combined matrix defined
 unfoldable pub leaves_defined : Machine → Machine
 leaves_defined = under a_microcode (λ k is t e. does [] (with_defined t k.state.defined) e)
-
--- ---- numbers of loads
-
--- 12. a copy made by modify takes the number of the last load
-unfoldable pub renumbers_copies : Machine → Machine
-renumbers_copies = under a_modify (λ k is t e. does [] t (with_row_edit e (renumbered k.state.loads e.rows)))
-
--- 13. rows are numbered from 0
-unfoldable pub numbers_from_zero : Machine → Machine
-numbers_from_zero = under a_load (λ k is t e. does [] t (with_row_edit e (renumbered k.state.loads e.rows)))
-
--- 14. a microcode change starts the numbers anew
-unfoldable pub starts_anew : Machine → Machine
-starts_anew = under a_microcode (λ k is t e. does [] (with_loads t 0) e)
-
--- 15. a load of no vertices takes no number
-unfoldable pub skips_empty : Machine → Machine
-skips_empty = under a_load (λ k is t e. does [] (pick (eqb (appended_rows e.rows) 0) (with_loads t k.state.loads) t) e)

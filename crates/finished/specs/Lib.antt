@@ -3,5 +3,4 @@ pub mod Settings
 pub mod Bench
 pub mod Statement
 pub mod Inked
-pub mod Filled
 pub mod Broken

@@ -2,7 +2,7 @@
 use Rattle.std.specs.Prelude.{ℕ, zero, suc, ◌+◌, ◌*◌, Bool, ◌&&◌, List, [], ◌∷◌, get_or, take, drop, eqb, leb, ℤ, Float}
 use Rattle.std.proofs.Math.Option.{Option, none, some}
 use Rattle.areas.specs.Area.{part}
-use Rattle.areas.specs.Widths.{flags_word, matrix_word, viewport_word, scale_word, colour_word, light_word, lights_word, texgen_word, fog_word, lookat_word, load_word, settings_wide, start_field, count_field}
+use Rattle.areas.specs.Widths.{flags_word, matrix_word, viewport_word, scale_word, colour_word, light_word, lights_word, texgen_word, fog_word, lookat_word, settings_wide, start_field, count_field}
 use Rattle.stage.specs.Plan.{Row, pick}
 use Rattle.sequence.specs.Sequence.{Book}
 
@@ -22,8 +22,6 @@ pub record Corner : Type 0 where
   pub texgen : ℕ
   pub fog : Option (List ℤ)
   pub lookat : Option (List Float)
-  -- the number of the load that made it
-  pub load : ℕ
 
 -- the entries in use of tables 1 to 6
 pub record Entries : Type 0 where
@@ -64,7 +62,6 @@ shown_by t floats word =
       texgen = word texgen_word;
       fog = fog_shown t.fogs (word fog_word);
       lookat = pick (eqb (word texgen_word) 0) none (some (get_or t.lookats (word lookat_word) []));
-      load = word load_word;
     }
 
 -- a row's u32 at place i

@@ -1,7 +1,6 @@
 // A first program over the stage: `main` is a list of commands, each sent by a small function over what is lent, which says
 // the answer and hands the state back. A refusal hands it back as it was.
 use libc::STDOUT_FILENO;
-use loads::Made;
 use stage::{Answer, Answered, State};
 
 // Matrix flags, bits of the geometry mode, and an attribute of modify, by this program's own names.
@@ -93,7 +92,7 @@ fn load(
     lookats: &mut [f32; 12],
     fogs: &mut [i16; 4],
     floats: &mut [f32; 90],
-    words: &mut [u32; 110],
+    words: &mut [u32; 100],
 ) -> State {
     let r = s.load(
         first, count, data, 0, matrices, scales, lights, lookats, fogs, floats, words,
@@ -125,7 +124,7 @@ fn modify(
     value: u32,
     scales: &mut [f32; 16],
     floats: &mut [f32; 90],
-    words: &mut [u32; 110],
+    words: &mut [u32; 100],
 ) -> State {
     heard(
         b"modify",
@@ -137,28 +136,18 @@ fn ink_count(
     s: State,
     colour: u32,
     floats: &[f32; 90],
-    words: &[u32; 110],
+    words: &[u32; 100],
     indices: &[u32; 30],
 ) -> State {
     heard(b"ink count", s.ink_count(colour, floats, words, indices))
 }
 
-// The colour word of a row: the fifth of its eleven numbers.
-fn colour_of(words: &[u32; 110], row: u32) -> u32 {
+// The colour word of a row: the fifth of its ten numbers.
+fn colour_of(words: &[u32; 100], row: u32) -> u32 {
     if row < 10 {
-        words[(row * 11 + 4) as usize]
+        words[(row * 10 + 4) as usize]
     } else {
         0
-    }
-}
-
-// Which load made a row, of so many in use: a lookup in the lent words, which needs no state.
-fn load_of(what: &[u8], words: &[u32; 110], rows: u32, row: u32) {
-    io::write_all(STDOUT_FILENO, what);
-    match loads::load_of(words, rows, row) {
-        Made::By(n) => one(b": load ", n),
-        Made::NotInUse => line(b": refusal 10"),
-        Made::Short => one(b": refusal 8, ", 7),
     }
 }
 
@@ -195,7 +184,7 @@ fn main() {
     let mut lookats = [0.0f32; 12];
     let mut fogs = [0i16; 4];
     let mut floats = [0.0f32; 90];
-    let mut words = [0u32; 110];
+    let mut words = [0u32; 100];
     let mut indices = [0u32; 30];
     let mut runs = [0u32; 16];
     let mut s = opening(&mut matrices, &mut viewports);
@@ -244,7 +233,4 @@ fn main() {
         b"colour word of slot 1's row: ",
         colour_of(&words, s.row[1]),
     );
-    // The copy has the number of the load that made its row. There is no row 4.
-    load_of(b"what made slot 1's row", &words, s.counts.rows, s.row[1]);
-    load_of(b"what made row 4", &words, s.counts.rows, 4);
 }

@@ -135,7 +135,7 @@ lent =
       lookats = zeros 6;
       fogs = pos 0 ∷ pos 0 ∷ [];
       floats = zeros 45;
-      words = replicate 55 0;
+      words = replicate 50 0;
       drawing = record { indices = replicate 6 0; runs = replicate 8 0 };
     }
 

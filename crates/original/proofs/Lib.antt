@@ -23,6 +23,5 @@ pub mod Prologues
 pub mod Among
 pub mod Inhabited
 pub mod Refusals
-pub mod Asides
 pub mod Dump
 pub mod Traced

@@ -22,7 +22,6 @@ use Rattle.stage.specs.Sound.{state_sound}
 use Rattle.stage.specs.Matrices.{combine, matrix_stores, matrix_plan, force_stores, force_plan, pop_plan, viewing, viewport_plan, geometry_plan}
 use Rattle.stage.specs.Lights.{texture_plan, fog_plan, number_plan, light_plan, ambient_plan, slot_plan, lookat_plan, microcode_plan}
 use Rattle.decide.specs.Family.{f3dex2}
-use Rattle.loads.specs.Loads.{number_left}
 use Rattle.triangle.specs.Run.{settings}
 use Rattle.vertex.specs.Vertices.{vertices_at}
 use Rattle.stage.specs.Load.{settled, load_edits, load_lent, load_plan}
@@ -240,7 +239,7 @@ module _ {o : Offsets} {k : Book} {w : World} (N : Same o k w) where
       let c : Command = load first count bytes at in
       sound-refused c _
       (re-unless _ (leb count 256 && leb (first + count) 256) 1 (count ∷ first ∷ []) _ (λ _ a _. absurd (omega arith))
-      (λ _. data-refused c _ _ _ (short-refused c (load_lent (load_of k) untouched) _ (re-judge _ 9 (load_lent (load_of k) (load_edits (settled f3dex2 k.state k.matrices.used k.scales.used k.fogs.used) k.state (vertices_at bytes at count))) _ (not-one c 9 (omega arith)) (re-unless _ (number_left k.state.loads) 9 (10 ∷ []) _ (λ _. not-one c 9 (omega arith) (10 ∷ [])) (λ _. quiet c _ _ _))))))
+      (λ _. data-refused c _ _ _ (short-refused c (load_lent (load_of k) untouched) _ (re-judge _ 9 (load_lent (load_of k) (load_edits (settled f3dex2 k.state k.matrices.used k.scales.used k.fogs.used) k.state (vertices_at bytes at count))) _ (not-one c 9 (omega arith)) (quiet c _ _ _)))))
   refused-too (cull first last) q = cull-refused first last
   refused-too (explain first last) q = absurd (false≢true (sym q))
   refused-too (depth slot threshold) q = depth-refused slot threshold

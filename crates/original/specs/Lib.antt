@@ -5,4 +5,3 @@ pub mod Drawing
 pub mod Walk
 pub mod Relation
 pub mod Domain
-pub mod Aside

@@ -285,7 +285,7 @@ pub record RustCorner : Type 0 where
   pub fog : Option (List ℤ)
   pub lookat : Option (List Float)
 
--- what of our corner is compared: all but the number of the load that made it, which the original does not have
+-- what of our corner is compared: what a corner has beyond these is ours alone and is left aside; today nothing is
 abbrev pub compared : Corner → RustCorner
 compared c =
     record {

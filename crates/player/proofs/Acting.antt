@@ -18,13 +18,13 @@ no_table (suc t) n l h = sym (set_out l t n (below (h (omega arith))))
     below k = omega arith
 
 -- a field that there is not
-pub no_field : (s : State) (i v f : ℕ) → 6 ≤ f → f ≢ 7 → s ≡ get_or (poked_states s i v) f s
+pub no_field : (s : State) (i v f : ℕ) → 5 ≤ f → f ≢ 7 → s ≡ get_or (poked_states s i v) f s
 no_field s i v zero h n = absurd (omega arith)
 no_field s i v (suc zero) h n = absurd (omega arith)
 no_field s i v (suc (suc zero)) h n = absurd (omega arith)
 no_field s i v (suc (suc (suc zero))) h n = absurd (omega arith)
 no_field s i v (suc (suc (suc (suc zero)))) h n = absurd (omega arith)
-no_field s i v (suc (suc (suc (suc (suc zero))))) h n = absurd (omega arith)
+no_field s i v (suc (suc (suc (suc (suc zero))))) h n = refl
 no_field s i v (suc (suc (suc (suc (suc (suc zero)))))) h n = refl
 no_field s i v (suc (suc (suc (suc (suc (suc (suc zero))))))) h n = absurd (n refl)
 no_field s i v (suc (suc (suc (suc (suc (suc (suc (suc f)))))))) h n = refl

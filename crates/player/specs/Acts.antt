@@ -2,7 +2,7 @@
 use Rattle.std.specs.Prelude.{ℕ, zero, suc, ◌%◌, true, List, [], ◌∷◌, set, get_or, eqb}
 use Rattle.stage.specs.declared.State.{State}
 use Rattle.stage.specs.declared.Counts.{Counts}
-use Rattle.stage.specs.With.{with_opened, with_model, with_lights, with_number, with_counts, with_loads, with_row, with_ever, with_loaded}
+use Rattle.stage.specs.With.{with_opened, with_model, with_lights, with_number, with_counts, with_row, with_ever, with_loaded}
 
 -- the nine counts, table 1's first
 abbrev pub count_list : Counts → List ℕ
@@ -29,8 +29,7 @@ counts_of l =
       runs = get_or l 8 0;
     }
 
--- what `poke` makes of a state, by field: opened, stack depth, light count, entries in use of table i, row of slot i, accepted loads, none,
--- loaded mark of slot i
+-- what `poke` makes of a state, by field: opened, stack depth, light count, entries in use of table i, row of slot i, none, none, loaded mark of slot i
 abbrev pub poked_states : State → ℕ → ℕ → List State
 poked_states s i v =
     with_opened s (eqb (v % 2) 1)
@@ -38,7 +37,7 @@ poked_states s i v =
     ∷ with_lights s (with_number s.lights v)
     ∷ with_counts s (counts_of (count_after i v (count_list s.counts)))
     ∷ with_ever (with_row s (set s.row (i % 256) v)) (set s.ever (i % 256) true)
-    ∷ with_loads s v
+    ∷ s
     ∷ s
     ∷ with_loaded s (set s.loaded (i % 256) (eqb (v % 2) 1))
     ∷ []

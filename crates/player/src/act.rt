@@ -24,8 +24,7 @@ fn with_count(c: Counts, table: u32, n: u32) -> Counts
     r
 }
 
-// The state tampered with. An index of a slot over 255 is taken by its low 8 bits; there is no field 6, and none
-// from 8 on.
+// The state tampered with. An index of a slot over 255 is taken by its low 8 bits; 5, 6 and from 8 on there is no field.
 pub fn poked(s: State, field: u32, index: u32, value: u32) -> State
     ensures { result ≡ poked_state s field index value }
 {
@@ -43,7 +42,6 @@ pub fn poked(s: State, field: u32, index: u32, value: u32) -> State
             r.row[i] = value;
             r.ever[i] = true;
         }
-        5 => r.loads = value,
         7 => r.loaded[i] = value % 2 == 1,
         _ => {}
     }

@@ -29,12 +29,10 @@ use Rattle.ink.specs.Ink.{ink_of}
 use Rattle.triangle.specs.Run.{closed, same_run}
 use Rattle.triangle.specs.Slot.{held}
 use Rattle.reason.specs.Reason.{reason}
-use Rattle.loads.specs.Loads.{load_of}
-use Rattle.stage.specs.Lights.{switched, microcode_plan}
-use Rattle.prints.specs.Prints.{Prints, viewed, load, modify, drawn, load0, load1, load2, draw1, modify1, draw2, load_unlit, load_lit, draw_lit, recolour, draw_recoloured, ink_count, load_matrix, force, some_first, some_again, load_more, load_none, load_after, load_behind}
+use Rattle.prints.specs.Prints.{Prints, viewed, load, modify, drawn, load0, load1, load2, draw1, modify1, draw2, load_unlit, load_lit, draw_lit, recolour, draw_recoloured, ink_count, load_matrix, force, some_first, some_again}
 
 pub prints : Prints
-unfolding load_more load_none load_after load_behind load_of switched microcode_plan load_matrix force some_first some_again telling matrix_stores matrix_plan force_stores force_plan combine turned made pushed row_at matrix_at exact_at noes inexact_at eq viewed load modify drawn load0 load1 load2 draw1 modify1 draw2 load_unlit load_lit draw_lit recolour draw_recoloured ink_count ink_of ink_plan asking changed change_plan modify_plan cull_plan explain_plan reason depth_plan run_edit draw_plan decoded floats_after words_after depth_after appends moved closed same_run held le of_ratio is_ratio entry_at triple_at viewport_at sqrt to_bits row_times code_of depth_of vertex_at put write matches texgen_mode pick find light_entries directional same_scale refold floats_of words_of clip_of slot_at slot_of vertices_at unless carry appended appending all state_sound blank opening_plan opening.opened viewing viewport_plan geometry_plan relit settled settled_state shared_by load_edits load_plan fill_slot fill_slots times rows laid add mul div neg lt ne
+unfolding load_matrix force some_first some_again telling matrix_stores matrix_plan force_stores force_plan combine turned made pushed row_at matrix_at exact_at noes inexact_at eq viewed load modify drawn load0 load1 load2 draw1 modify1 draw2 load_unlit load_lit draw_lit recolour draw_recoloured ink_count ink_of ink_plan asking changed change_plan modify_plan cull_plan explain_plan reason depth_plan run_edit draw_plan decoded floats_after words_after depth_after appends moved closed same_run held le of_ratio is_ratio entry_at triple_at viewport_at sqrt to_bits row_times code_of depth_of vertex_at put write matches texgen_mode pick find light_entries directional same_scale refold floats_of words_of clip_of slot_at slot_of vertices_at unless carry appended appending all state_sound blank opening_plan opening.opened viewing viewport_plan geometry_plan relit settled settled_state shared_by load_edits load_plan fill_slot fill_slots times rows laid add mul div neg lt ne
 prints =
     record {
       begins = (refl, refl);
@@ -59,6 +57,4 @@ prints =
       case19 = (((refl, refl), (refl, refl), (refl, refl), (refl, refl)), ((refl, refl), (refl, refl)));
       case20 = ((refl, refl), (refl, refl));
       case21 = ((refl, refl), (refl, refl), (refl, refl));
-      case22 = (((refl, refl), (refl, refl), (refl, refl), (refl, refl)), ((refl, refl), (refl, refl)), ((refl, refl), refl), ((refl, refl), refl, (refl, refl), refl, refl));
-      case23 = (((refl, refl), refl, refl), ((refl, refl), (refl, refl), (refl, refl)));
     }

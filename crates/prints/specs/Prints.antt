@@ -1,22 +1,17 @@
--- Twenty-three cases of the rules as one table, a row for each. A case that goes through commands says the number and the values
+-- Eighteen cases of the rules as one table, a row for each. A case that goes through commands says the number and the values
 -- of each one's answer. `prints` of proofs/Proved.antt proves it whole.
-use Rattle.std.specs.Prelude.{◌≡◌, true, false, List, [], ◌∷◌, ◌++◌, ℕ, zero, suc, ◌+◌, ◌*◌, replicate, get_or, take, ℤ, pos, negsuc, Float}
+use Rattle.std.specs.Prelude.{◌≡◌, true, false, List, [], ◌∷◌, ◌++◌, ℕ, zero, suc, ◌+◌, ◌*◌, replicate, get_or, ℤ, pos, negsuc, Float}
 use Rattle.std.specs.Float.{binary32}
 use Rattle.std.specs.Float.Ieee.{to_bits}
 use Rattle.numbers.specs.Ratio.{of_ratio, is_ratio}
 use Rattle.numbers.specs.Sqrt.{sqrt}
-use Rattle.areas.specs.Widths.{word_width, colour_word, lights_word, load_word}
+use Rattle.areas.specs.Widths.{word_width, colour_word, lights_word}
 use Rattle.matrix.specs.Math.{at}
 use Rattle.mode.specs.declared.ModeWord.{ModeWord}
 use Rattle.mode.specs.Word.{joined}
 use Rattle.decide.specs.Family.{family_of}
 use Rattle.decide.specs.Lights.{light_number}
-use Rattle.loads.specs.Loads.{load_of}
-use Rattle.loads.specs.Loads as loads
 use Rattle.stage.specs.declared.State.{State}
-use Rattle.stage.specs.declared.settings.Microcode.TheVariants.{F3dex2NoN}
-use Rattle.stage.specs.With.{with_loads}
-use Rattle.stage.specs.Lights.{microcode_plan}
 pub use Rattle.stage.specs.Plan.{Answers}
 use Rattle.stage.specs.Plan.{Outcome, carry, matrix_area, viewport_area, index_area, row_table, table_in, nothing}
 use Rattle.stage.specs.Sound.{limit}
@@ -71,7 +66,7 @@ point_bytes a b c d e f = a ∷ b ∷ c ∷ d ∷ e ∷ f ∷ replicate 10 0
 
 -- table 1 as opening left it, and areas with room for four rows and two scale entries
 abbrev pub lent_areas : LoadAreas
-lent_areas = load_areas opening.areas.0 (zeros 8) [] [] [] (zeros 36) (replicate 44 0)
+lent_areas = load_areas opening.areas.0 (zeros 8) [] [] [] (zeros 36) (replicate 40 0)
 
 -- a load of n vertices into the slots from first on. Opening leaves the matrix undefined, so each load of these cases tells 1
 unfoldable pub load : State → LoadAreas → ℕ → ℕ → List ℕ → Outcome LoadAreas
@@ -166,7 +161,7 @@ ink_bytes = replicate 12 0 ++ (1 ∷ 2 ∷ 3 ∷ 4 ∷ [])
 
 -- it is loaded into slot 0, with room for one light; the lighting bit is set; it is loaded into slot 1, and one of zeros into slot 2
 unfoldable pub load_unlit : Outcome LoadAreas
-load_unlit = load opened (load_areas opening.areas.0 (zeros 8) (zeros 6) [] [] (zeros 36) (replicate 44 0)) 0 1 ink_bytes
+load_unlit = load opened (load_areas opening.areas.0 (zeros 8) (zeros 6) [] [] (zeros 36) (replicate 40 0)) 0 1 ink_bytes
 
 abbrev pub lighting : Outcome (Unit {0})
 lighting = moded load_unlit.state over
@@ -224,34 +219,6 @@ some_first = load_matrix opened roomy some_bytes
 unfoldable pub some_again : Outcome (List Float)
 some_again = load_matrix some_first.state some_first.areas some_bytes
 
--- after case 12's commands, of which the modify made a copy: the areas of a load, then a load of one vertex more, and one of none
-abbrev pub full_areas : LoadAreas
-full_areas =
-    let l = load2.areas in
-    let m = modify1.areas in
-    load_areas l.matrices m.0 l.lights l.lookats l.fogs m.1 m.2
-
-unfoldable pub load_more : Outcome LoadAreas
-load_more = load draw2.state full_areas 3 1 (point_bytes 0 0 0 0 0 0)
-
-unfoldable pub load_none : Outcome LoadAreas
-load_none = load draw2.state full_areas 3 0 []
-
--- and a microcode change
-abbrev pub switched_none : Outcome (Unit {0})
-switched_none = carry nothing (microcode_plan load_none.state F3dex2NoN) load_none.state tt
-
--- the lookup of a row, of the rows in use in the state, answers number n with the values vs
-abbrev pub Looked : State → List ℕ → ℕ → ℕ → List ℕ → Type 0
-Looked s words row n vs = (loads.number (load_of words s.counts.rows row) ≡ n) × (loads.values (load_of words s.counts.rows row) ≡ vs)
-
--- a load of one vertex into slot 0 after so many loads, and one behind it
-unfoldable pub load_after : ℕ → Outcome LoadAreas
-load_after n = load (with_loads opened n) lent_areas 0 1 (point_bytes 0 0 0 0 0 0)
-
-unfoldable pub load_behind : ℕ → ℕ → List ℕ → Outcome LoadAreas
-load_behind n count bytes = load (load_after n).state (load_after n).areas 1 count bytes
-
 -- a row has this colour word and this light count
 abbrev pub Lit : List ℕ → ℕ → ℕ → ℕ → Type 0
 Lit words row colour lights = (get_or words (row * word_width + colour_word) 0 ≡ colour) × (get_or words (row * word_width + lights_word) 99 ≡ lights)
@@ -301,8 +268,3 @@ pub record Prints : Type 0 where
   pub case20 : Answers (explained both.state 0 1) 0 (0 ∷ 0 ∷ 1 ∷ 0 ∷ 0 ∷ []) × Answers (explained both.state 1 1) 0 (0 ∷ 1 ∷ 1 ∷ 1 ∷ 1 ∷ [])
   -- 21. code 0, and a slot that is not loaded: 3 with slot 1, though slot 0 is outside no plane; slots 1 to 0: 2
   pub case21 : Code (one (point_bytes 0 1 0 0 0 0)).state 0 0 × Answers (explained (one (point_bytes 0 1 0 0 0 0)).state 0 1) 3 (1 ∷ []) × Answers (explained (one (point_bytes 0 1 0 0 0 0)).state 1 0) 2 (1 ∷ 0 ∷ [])
-  -- 22. case 12's three loads, and the copy: their rows are of loads 1, 2, 3 and 2; row 4 is not in use, and an area one number short is refused; a load of one
-  -- more is refused 9 with 7 and takes no number; one of no vertices takes 4, through a microcode change; opening begins with 0
-  pub case22 : (Looked draw2.state full_areas.words 0 0 (1 ∷ []) × Looked draw2.state full_areas.words 1 0 (2 ∷ []) × Looked draw2.state full_areas.words 2 0 (3 ∷ []) × Looked draw2.state full_areas.words 3 0 (2 ∷ [])) × (Looked draw2.state full_areas.words 4 10 [] × Looked draw2.state (take 43 full_areas.words) 0 8 (7 ∷ [])) × (Answers load_more 9 (7 ∷ []) × (load_more.state.loads ≡ 3)) × (Tells load_none 1 × (load_none.state.loads ≡ 4) × Done switched_none × (switched_none.state.loads ≡ 4) × (opened.loads ≡ 0))
-  -- 23. after number 4,294,967,294 a load takes the last one; the next, of one vertex or of none, is refused 9 with 10, and one with no room for its rows 9 with 7
-  pub case23 : (Tells (load_after 4294967294) 1 × (get_or (load_after 4294967294).areas.words load_word 0 ≡ 4294967295) × ((load_after 4294967294).state.loads ≡ 4294967295)) × (Answers (load_behind 4294967294 1 (point_bytes 0 0 0 0 0 0)) 9 (10 ∷ []) × Answers (load_behind 4294967294 0 []) 9 (10 ∷ []) × Answers (load_behind 4294967294 4 (replicate 64 0)) 9 (7 ∷ []))

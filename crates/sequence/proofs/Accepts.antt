@@ -23,7 +23,6 @@ use Rattle.change.specs.Decoded.{decoded}
 use Rattle.stage.specs.Modify.{moved, edits37, asking, scale_edit, row_change, changed, change_plan, modify_plan, ink_plan}
 use Rattle.triangle.specs.Run.{settings, closed}
 use Rattle.reason.specs.Reason.{reason}
-use Rattle.loads.specs.Loads.{number_left}
 use Rattle.triangle.specs.Slot.{bit, held, both, culls}
 use Rattle.vertex.specs.Vertices.{vertices_at}
 use Rattle.stage.specs.declared.State.{State}
@@ -172,7 +171,7 @@ module _ (Q : List ℕ → State → Edits → Type 0) where
       on-unless (leb count slots && leb (first + count) slots) 1 _ _
       (λ e.
       on-unless (leb (at + 16 * count) (length bytes)) 7 _ _
-      (λ n. on-judge 8 (load_lent t untouched) _ (λ _. on-judge 9 (load_lent t (load_edits (settled f s t.matrices.used t.scales.used t.fogs.used) s (vertices_at bytes at count))) _ (λ k. on-unless (number_left s.loads) 9 _ _ (λ _. on-does _ _ _ (h (leb-true _ _ (and_right (leb count slots) (leb (first + count) slots) e)) (leb-true _ _ n) k)))))))
+      (λ n. on-judge 8 (load_lent t untouched) _ (λ _. on-judge 9 (load_lent t (load_edits (settled f s t.matrices.used t.scales.used t.fogs.used) s (vertices_at bytes at count))) _ (λ k. on-does _ _ _ (h (leb-true _ _ (and_right (leb count slots) (leb (first + count) slots) e)) (leb-true _ _ n) k))))))
 
   -- the slot is loaded, its row is in use, and tables 3 and 7 have room
   pub on-modify : (slots : ℕ) (s : State) (scales : Table (List Float)) (rows : Table Row) (slot attribute value : ℕ)

@@ -1,10 +1,10 @@
 -- The load, put together: its judges, and what it leaves. Assumes nothing.
 use mathlib.Core.Path.{◌≡◌, refl, sym, ap, ◌∙◌, subst}
-use Prim.Native.Nat.{ℕ, zero, suc, ◌+◌, ◌*◌, ◌≤◌, ◌<◌, min}
+use Prim.Native.Nat.{ℕ, zero, suc, ◌+◌, ◌*◌, ◌≤◌, min}
 use native.Mathlib.Omega.{arith}
 use mathlib.Core.Bool.{Bool, true, false, ◌&&◌}
 use lib.Dec.{leb, eqb}
-use borrow.Author.Tests.{leb-true, ltb-true, eqb-true, eqb-false}
+use borrow.Author.Tests.{leb-true, eqb-true, eqb-false}
 use mathlib.Core.Logic.{◌⊎◌, ⊎_elim}
 use types.Run.{OneOf, miss}
 use denote.Enum.Declared.{tag_of}
@@ -12,7 +12,7 @@ use mathlib.Core.List.{List, [], ◌∷◌, map}
 use lib.ListN.{length, length-map}
 use lib.IntN.{ℤ}
 use lib.Ieee.{Float}
-use Rattle.areas.specs.Widths.{most, most_loads, matrix_width, scale_width, fog_width, float_width, word_width}
+use Rattle.areas.specs.Widths.{most, matrix_width, scale_width, fog_width, float_width, word_width}
 use Rattle.areas.specs.Area.{entries, room, write}
 use Rattle.areas.proofs.Tables.{length-entries, room_fits}
 use Rattle.matrix.specs.Math.{rows}
@@ -24,7 +24,6 @@ use Rattle.fold.specs.Lights.{light_entries}
 use Rattle.fold.specs.Fog.{find}
 use Rattle.fold.specs.Lookat.{lookat_entry}
 use Rattle.fold.proofs.Believe.{length-lights, find_first}
-use Rattle.loads.specs.Loads.{number_left, following}
 use Rattle.vertex.specs.declared.Shared.{Shared}
 use Rattle.vertex.specs.Steps.{RowsFit, Laid, Marked}
 use Rattle.vertex.specs.Vertices.{floats_of, words_of, vertices_at}
@@ -40,11 +39,11 @@ use Rattle.stage.specs.contracts.Answer.{the_type}
 use Rattle.stage.specs.declared.load.Settled.{Settled}
 use Rattle.stage.specs.declared.load.More.{More}
 use Rattle.stage.specs.declared.load.Rooms.{Rooms}
-use Rattle.stage.specs.Plan.{Edits, only_if, Plan, refuse, unless, judge, more, pick, rows_of, untouched, advance, Outcome, outcome, carry}
+use Rattle.stage.specs.Plan.{Edits, only_if, Plan, judge, more, pick, rows_of, untouched, advance, Outcome, outcome, carry}
 use Rattle.stage.specs.Load.{settled, settled_state, lights_then, lookat_then, shared_by, load_edits, load_done, load_plan, vertex_row, LoadAreas, load_tables, load_lent, areas_load, fog_pair, load_areas}
 use Rattle.stage.specs.Sound.{state_sound, limit}
 use Rattle.stage.specs.Rows.{fill_slots}
-use Rattle.stage.specs.With.{with_counts, with_combined, with_lights, with_lookat, with_loads, Slots, with_slots}
+use Rattle.stage.specs.With.{with_counts, with_combined, with_lights, with_lookat, Slots, with_slots}
 use Rattle.stage.specs.Steps.{six_lent, rooms_of, more_by, no_more, early_answer, late_answer, advance_tables, Ranged, TablesAre, RowsLaid, settled_in, Refused, Ready}
 use Rattle.stage.specs.declared.load.Prepared.{Prepared}
 use Rattle.stage.specs.Answers.{number}
@@ -194,10 +193,6 @@ module _ (s s' t : State) (d : Settled) (e : Shared) (m : List (List Float)) (c 
         };
       }
 
--- the late answer, by its two tests
-abbrev pub late_by : Bool → Bool → ℕ → ℕ → Answer
-late_by b₁ b₂ n m = pick b₁ (pick b₂ (Told n) (NoRoom 10)) (NoRoom m)
-
 -- ---- what the tests of a load show, in their order
 
 -- the first three: the state is sound, the slots are there, the bytes reach
@@ -320,12 +315,8 @@ module _ (s : State) (l : LoadAreas) (first count at : ℕ) (bytes : List ℕ) w
     nine : tables (load_edits d s vs) ≡ six_lent s.counts (more_by d s count) r
     nine = six-lent s.counts l (load_edits d s vs) (more_by d s count) r z.roomed.is-rooms (load-more d s vs count (length-vertices bytes at count))
 
-    -- what is planned where no table is full
-    abbrev unfull : Settled → Plan
-    unfull x = unless (number_left s.loads) (refuse 9 (10 ∷ [])) (load_done x s first vs)
-
     abbrev judged-nine : Settled → Plan
-    judged-nine x = judge 9 (tables (load_edits x s vs)) (unfull x)
+    judged-nine x = judge 9 (tables (load_edits x s vs)) (load_done x s first vs)
 
     to-nine : (o : Outcome LoadAreas) → o ≡ carry areas_load (judged-nine d) s l → o ≡ carry areas_load load-plan s l
     unfolding load_plan
@@ -341,43 +332,34 @@ module _ (s : State) (l : LoadAreas) (first count at : ℕ) (bytes : List ℕ) w
     numbered-nine = numbered (load_edits d s vs) (more_by d s count) r nine
 
     way-full : (full ≡ 0 → ⊥) → Refuses (NoRoom full)
-    way-full h = to-nine _ (table-refused areas_load s l 9 (tables (load_edits d s vs)) (unfull d) (NoRoom full) full numbered-nine (ap first_short (sym nine)) h refl refl)
+    way-full h = to-nine _ (table-refused areas_load s l 9 (tables (load_edits d s vs)) (load_done d s first vs) (NoRoom full) full numbered-nine (ap first_short (sym nine)) h refl refl)
 
-    past-full : full ≡ 0 → (o : Outcome LoadAreas) → o ≡ carry areas_load (unfull d) s l → o ≡ carry areas_load load-plan s l
-    past-full e o h = to-nine o (table-passed areas_load s l 9 (tables (load_edits d s vs)) (unfull d) o full numbered-nine (ap first_short (sym nine)) e h)
+    pub way-done : full ≡ 0 → (o : Outcome LoadAreas) → o ≡ carry areas_load (load_done d s first vs) s l → o ≡ carry areas_load load-plan s l
+    way-done e o h = to-nine o (table-passed areas_load s l 9 (tables (load_edits d s vs)) (load_done d s first vs) o full numbered-nine (ap first_short (sym nine)) e h)
 
-    way-last : full ≡ 0 → number_left s.loads ≡ false → Refuses (NoRoom 10)
-    way-last e g = past-full e _ (refused areas_load s l _ _ (NoRoom 10) g)
-
-    pub way-done : full ≡ 0 → number_left s.loads ≡ true → (o : Outcome LoadAreas) → o ≡ carry areas_load (load_done d s first vs) s l → o ≡ carry areas_load load-plan s l
-    way-done e g o h = past-full e o (passed areas_load s l _ _ _ _ o g h)
-
-    -- the late answer, by its two tests
+    -- the late answer, by its one test
     abbrev told : ℕ
     told = pick s.defined 0 1
 
-    late-refuses : (b₁ b₂ : Bool) → eqb full 0 ≡ b₁ → number_left s.loads ≡ b₂ → (number (late_by b₁ b₂ told full) ≡ 0 → ⊥) → Refuses (late_by b₁ b₂ told full)
+    late-refuses : (b : Bool) → eqb full 0 ≡ b → (number (pick b (Told told) (NoRoom full)) ≡ 0 → ⊥) → Refuses (pick b (Told told) (NoRoom full))
     unfolding pick
-    late-refuses false b₂ e₁ e₂ o = way-full (eqb-false _ _ e₁)
-    late-refuses true false e₁ e₂ o = way-last (eqb-true _ _ e₁) e₂
-    late-refuses true true e₁ e₂ o = absurd (o refl)
+    late-refuses false e o = way-full (eqb-false _ _ e)
+    late-refuses true e o = absurd (o refl)
 
-    late-goes-on : (b₁ b₂ : Bool) → eqb full 0 ≡ b₁ → number_left s.loads ≡ b₂ → number (late_by b₁ b₂ told full) ≡ 0
-        → (full ≡ 0) × (number_left s.loads ≡ true) × (late_by b₁ b₂ told full ≡ Told told)
+    late-goes-on : (b : Bool) → eqb full 0 ≡ b → number (pick b (Told told) (NoRoom full)) ≡ 0 → (full ≡ 0) × (pick b (Told told) (NoRoom full) ≡ Told told)
     unfolding pick
-    late-goes-on false b₂ e₁ e₂ o = absurd (let z : ◌≡◌ {A = ℕ} 9 0 = o in omega arith)
-    late-goes-on true false e₁ e₂ o = absurd (let z : ◌≡◌ {A = ℕ} 9 0 = o in omega arith)
-    late-goes-on true true e₁ e₂ o = (eqb-true _ _ e₁, e₂, refl)
+    late-goes-on false e o = absurd (let z : ◌≡◌ {A = ℕ} 9 0 = o in omega arith)
+    late-goes-on true e o = (eqb-true _ _ e, refl)
 
     -- a late answer that refuses is the load's
     pub way-late : (a : Answer) → a ≡ late_answer d s count r → (number a ≡ 0 → ⊥) → Refuses a
     unfolding late_answer
-    way-late a q o = subst Refuses (sym q) (late-refuses _ _ refl refl (λ e. o (ap number q ∙ e)))
+    way-late a q o = subst Refuses (sym q) (late-refuses _ refl (λ e. o (ap number q ∙ e)))
 
-    -- where it does not, no table is full, a number is left, and it tells of the matrix
-    pub passed-late : (a : Answer) → a ≡ late_answer d s count r → number a ≡ 0 → (full ≡ 0) × (number_left s.loads ≡ true) × (a ≡ Told told)
+    -- where it does not, no table is full, and it tells of the matrix
+    pub passed-late : (a : Answer) → a ≡ late_answer d s count r → number a ≡ 0 → (full ≡ 0) × (a ≡ Told told)
     unfolding late_answer
-    passed-late a q o = let h = late-goes-on _ _ refl refl (sym (ap number q) ∙ o) in (h.0, h.1, q ∙ h.2)
+    passed-late a q o = let h = late-goes-on _ refl (sym (ap number q) ∙ o) in (h.0, q ∙ h.1)
 
     -- what the writing half asks for
     pub load-ready : full ≡ 0 → Ranged s d × RowsFit s.counts.rows first count at bytes l.floats l.words
@@ -398,10 +380,10 @@ module _ (s : State) (l : LoadAreas) (first count at : ℕ) (bytes : List ℕ) w
 -- ---- what the writing half needs on its way
 
 -- the state then, as the code sets it
-pub settled-then : (s : State) (d : Settled) {l : Lights} {o : Lookat} {n : ℕ} → l ≡ lights_then d s → o ≡ lookat_then d s → n ≡ following s.loads
-    → with_loads (with_lookat (with_lights (with_combined s d.combined s.defined) l) o) n ≡ settled_state d s
+pub settled-then : (s : State) (d : Settled) {l : Lights} {o : Lookat} → l ≡ lights_then d s → o ≡ lookat_then d s
+    → with_lookat (with_lights (with_combined s d.combined s.defined) l) o ≡ settled_state d s
 unfolding settled_state
-settled-then s d p q r = λ i. with_loads (with_lookat (with_lights (with_combined s d.combined s.defined) (p i)) (q i)) (r i)
+settled-then s d p q = λ i. with_lookat (with_lights (with_combined s d.combined s.defined) (p i)) (q i)
 
 -- ---- which answers refuse, by their tags
 
@@ -445,42 +427,34 @@ module _ (s : State) (first count len at : ℕ) (r : Rooms) where
   passes-early a q o = early-done _ _ _ _ (sym (ap (tag_of the_type) q) ∙ o)
 
 module _ (s : State) (d : Settled) (count : ℕ) (r : Rooms) where
-  late-tagged : (b₁ b₂ : Bool) (n m : ℕ) → OneOf untold (tag_of the_type (late_by b₁ b₂ n m)) → number (late_by b₁ b₂ n m) ≡ 0 → ⊥
+  late-tagged : (b : Bool) (n m : ℕ) → OneOf untold (tag_of the_type (pick b (Told n) (NoRoom m))) → number (pick b (Told n) (NoRoom m)) ≡ 0 → ⊥
   unfolding pick
-  late-tagged false b₂ n m o e = let z : ◌≡◌ {A = ℕ} 9 0 = e in omega arith
-  late-tagged true false n m o e = let z : ◌≡◌ {A = ℕ} 9 0 = e in omega arith
-  late-tagged true true n m o e = miss untold 1 tt o
+  late-tagged false n m o e = let z : ◌≡◌ {A = ℕ} 9 0 = e in omega arith
+  late-tagged true n m o e = miss untold 1 tt o
 
-  late-told : (b₁ b₂ : Bool) (n m : ℕ) → tag_of the_type (late_by b₁ b₂ n m) ≡ 1 → number (late_by b₁ b₂ n m) ≡ 0
+  late-told : (b : Bool) (n m : ℕ) → tag_of the_type (pick b (Told n) (NoRoom m)) ≡ 1 → number (pick b (Told n) (NoRoom m)) ≡ 0
   unfolding pick
-  late-told false b₂ n m o = absurd (let z : ◌≡◌ {A = ℕ} 12 1 = o in omega arith)
-  late-told true false n m o = absurd (let z : ◌≡◌ {A = ℕ} 12 1 = o in omega arith)
-  late-told true true n m o = refl
+  late-told false n m o = absurd (let z : ◌≡◌ {A = ℕ} 12 1 = o in omega arith)
+  late-told true n m o = refl
 
-  late-passed : (b₁ b₂ : Bool) (n m : ℕ) → eqb m 0 ≡ b₁ → number_left s.loads ≡ b₂ → number (late_by b₁ b₂ n m) ≡ 0 → (m ≡ 0) × (number_left s.loads ≡ true)
+  late-full : (b : Bool) (n m : ℕ) → eqb m 0 ≡ b → number (pick b (Told n) (NoRoom m)) ≡ 0 → m ≡ 0
   unfolding pick
-  late-passed false b₂ n m e₁ e₂ o = absurd (let z : ◌≡◌ {A = ℕ} 9 0 = o in omega arith)
-  late-passed true false n m e₁ e₂ o = absurd (let z : ◌≡◌ {A = ℕ} 9 0 = o in omega arith)
-  late-passed true true n m e₁ e₂ o = (eqb-true _ _ e₁, e₂)
+  late-full false n m e o = absurd (let z : ◌≡◌ {A = ℕ} 9 0 = o in omega arith)
+  late-full true n m e o = eqb-true _ _ e
 
   -- where it does not refuse, no table is full, and the rows are not too many
   pub rows-count : (a : Answer) → a ≡ late_answer d s count r → number a ≡ 0 → (f w : ℕ) → r.rows ≡ min (room float_width f) (room word_width w) → s.counts.rows + count ≤ most
   unfolding late_answer
-  rows-count a q o f w e = (fits-rows s.counts d s (more_by d s count) r count f w refl e (late-passed _ _ _ _ refl refl (sym (ap number q) ∙ o)).0).0
-
-  -- and a number is left for the load
-  pub number-left : (a : Answer) → a ≡ late_answer d s count r → number a ≡ 0 → s.loads < most_loads
-  unfolding late_answer
-  number-left a q o = ltb-true _ _ (late-passed _ _ (pick s.defined 0 1) (full_of s d count r) refl refl (sym (ap number q) ∙ o)).1
+  rows-count a q o f w e = (fits-rows s.counts d s (more_by d s count) r count f w refl e (late-full _ _ _ refl (sym (ap number q) ∙ o))).0
 
   -- the late answer refuses unless it is Told
   pub refuses-late : (a : Answer) → a ≡ late_answer d s count r → OneOf untold (tag_of the_type a) → number a ≡ 0 → ⊥
   unfolding late_answer
-  refuses-late a q o e = late-tagged _ _ _ _ (subst (λ (x : Answer). OneOf untold (tag_of the_type x)) q o) (sym (ap number q) ∙ e)
+  refuses-late a q o e = late-tagged _ _ _ (subst (λ (x : Answer). OneOf untold (tag_of the_type x)) q o) (sym (ap number q) ∙ e)
 
   pub passes-late : (a : Answer) → a ≡ late_answer d s count r → tag_of the_type a ≡ 1 → number a ≡ 0
   unfolding late_answer
-  passes-late a q o = ap number q ∙ late-told _ _ _ _ (sym (ap (tag_of the_type) q) ∙ o)
+  passes-late a q o = ap number q ∙ late-told _ _ _ (sym (ap (tag_of the_type) q) ∙ o)
 
 -- ---- what is prepared of a load, by its answer
 module _ (s : State) (d : Settled) (first count len at : ℕ) (r : Rooms) (a b l o : List Float) (f : List ℤ) (a' b' l' o' : List Float) (f' : List ℤ) (p : Prepared) where
@@ -518,7 +492,7 @@ module _ (s : State) (l : LoadAreas) (first count at : ℕ) (bytes : List ℕ) (
   -- it is ready
   module _ (p : Prepared) (x : LoadAreas)
       (h : Ready s d first count (length bytes) at r l.matrices l.scales l.lights l.lookats l.fogs x.matrices x.scales x.lights x.lookats x.fogs p) where
-    passes : (full_of s d count r ≡ 0) × (number_left s.loads ≡ true) × (p.answer ≡ Told (pick s.defined 0 1))
+    passes : (full_of s d count r ≡ 0) × (p.answer ≡ Told (pick s.defined 0 1))
     passes = passed-late s l first count at bytes r d (sized h.early) p.answer h.late h.told
 
     -- there is place for its rows
@@ -527,13 +501,10 @@ module _ (s : State) (l : LoadAreas) (first count at : ℕ) (bytes : List ℕ) (
 
     -- the state before its rows and counts, as the code sets it
     abbrev settling : State
-    settling = with_loads (with_lookat (with_lights (with_combined s p.combined s.defined) p.lights) p.lookat) p.shared.load
+    settling = with_lookat (with_lights (with_combined s p.combined s.defined) p.lights) p.lookat
 
     settles : settling ≡ settled_state d s
-    unfolding shared_by
-    settles =
-        (λ i. with_loads (with_lookat (with_lights (with_combined s (h.combined i) s.defined) p.lights) p.lookat) p.shared.load)
-        ∙ settled-then s d h.lights h.lookat (ap (λ (e : Shared). e.load) h.shared)
+    settles = (λ i. with_lookat (with_lights (with_combined s (h.combined i) s.defined) p.lights) p.lookat) ∙ settled-then s d h.lights h.lookat
 
     -- with its rows and slots it is done
     pub done-load : (m : List (List Float)) (q : Slots)
@@ -542,10 +513,10 @@ module _ (s : State) (l : LoadAreas) (first count at : ℕ) (bytes : List ℕ) (
         → Marked first s.counts.rows count s.row s.ever s.loaded s.drawn q.row q.ever q.loaded q.drawn
         → outcome (record { state = with_slots (with_counts settling p.counts) q; answer = p.answer }) x ≡ carry areas_load (load-plan s l first count at bytes) s l
     done-load m q is-matrix laid marked =
-        way-done s l first count at bytes r d (sized h.early) passes.0 passes.1 _
+        way-done s l first count at bytes r d (sized h.early) passes.0 _
         (load-done s settling (with_slots settling q) d p.shared m p.counts (vertices_at bytes at count) first count p.answer l x settles h.shared
         (is-matrix ∙ ap (λ (c : List Float). rows c 0) h.combined)
-        h.tables (loaded-by {s = settling} {l = q} laid marked) passes.2 (length-vertices bytes at count))
+        h.tables (loaded-by {s = settling} {l = q} laid marked) passes.1 (length-vertices bytes at count))
 
 -- what a load leaves is known by the state, its columns, its answer and its areas, each by itself
 module _ (g g' : State) (c c' : Slots) (a a' : Answer) (k k' : LoadAreas) where

@@ -13,7 +13,6 @@ use Rattle.fold.specs.Fog.{find}
 use Rattle.fold.specs.Lights.{light_entries}
 use Rattle.fold.specs.Lookat.{lookat_entry}
 use Rattle.fold.specs.Scales.{scale_entry, same_scale}
-use Rattle.loads.specs.Loads.{number_left, following}
 use Rattle.vertex.specs.declared.Shared.{Shared}
 use Rattle.vertex.specs.Vertices.{floats_of, words_of, vertices_at}
 use Rattle.stage.specs.declared.State.{State}
@@ -25,7 +24,7 @@ use Rattle.stage.specs.Plan.{Table, Edit, only_if, keep, grow, Row, Edits, Plan,
 use Rattle.stage.specs.Sound.{sound, limit}
 use Rattle.stage.specs.Matrices.{model_top, product}
 use Rattle.stage.specs.Rows.{fill_slots}
-use Rattle.stage.specs.With.{with_combined, with_lights, with_lookat, with_loads, folded_lights, folded_lookat}
+use Rattle.stage.specs.With.{with_combined, with_lights, with_lookat, folded_lights, folded_lookat}
 
 -- the tables lent to a load
 pub record LoadTables : Type 0 where
@@ -74,9 +73,9 @@ lights_then d s = pick d.newlights (folded_lights s.lights d.model s.counts.ligh
 abbrev pub lookat_then : Settled → State → Lookat
 lookat_then d s = pick d.newlookat (folded_lookat s.lookat d.model s.counts.lookats) s.lookat
 
--- the state then, but for its counts: a recomputed matrix stays undefined, and the load is counted
+-- the state then, but for its counts: a recomputed matrix stays undefined
 unfoldable pub settled_state : Settled → State → State
-settled_state d s = with_loads (with_lookat (with_lights (with_combined s d.combined s.defined) (lights_then d s)) (lookat_then d s)) (following s.loads)
+settled_state d s = with_lookat (with_lights (with_combined s d.combined s.defined) (lights_then d s)) (lookat_then d s)
 
 -- what every row of the load shares. A table's current entry is its last
 unfoldable pub shared_by : Settled → State → Shared
@@ -90,7 +89,6 @@ shared_by d s =
       texgen = d.texgen;
       fog = pick d.foggy (d.fogat + 1) 0;
       lookat = pick (eqb d.texgen 0) 0 (lookat_then d s).place;
-      load = following s.loads;
       zscale = at s.viewport 2;
       ztranslation = at s.viewport 5;
     }
@@ -123,7 +121,7 @@ load_lent t e = lent 1 t.matrices e.matrices ∷ lent 3 t.scales e.scales ∷ le
 abbrev pub load_done : Settled → State → ℕ → List Vertex → Plan
 load_done d s first vs = does (pick s.defined 0 1 ∷ []) (fill_slots (settled_state d s) (rows d.combined 0) (shared_by d s) first s.counts.rows vs) (load_edits d s vs)
 
--- Load: count vertices of 16 bytes into the slots from first on. No load comes after the last number: that is 9 with table 10, behind the tables
+-- Load: count vertices of 16 bytes into the slots from first on
 unfoldable pub load_plan : Family → ℕ → State → LoadTables → ℕ → ℕ → List ℕ → ℕ → Plan
 load_plan f slots s t first count bytes at =
     let d = settled f s t.matrices.used t.scales.used t.fogs.used in
@@ -133,8 +131,7 @@ load_plan f slots s t first count bytes at =
     (needs (16 * count) at bytes
     (judge 8 (load_lent t untouched)
     (judge 9 (load_lent t (load_edits d s vs))
-    (unless (number_left s.loads) (refuse 9 (10 ∷ []))
-    (load_done d s first vs))))))
+    (load_done d s first vs)))))
 
 -- ---- its areas
 

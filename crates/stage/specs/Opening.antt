@@ -33,7 +33,6 @@ blank mark =
       lights = record { number = 0; directions = zeros 24; colours = zeros 24; ambient = zeros 3; changed = false; folded = false; top = zeros 16; first = 0 };
       lookat = record { axes = zeros 6; changed = false; folded = false; top = zeros 16; place = 0 };
       counts = record { matrices = 0; viewports = 0; scales = 0; lights = 0; lookats = 0; fogs = 0; rows = 0; indices = 0; runs = 0 };
-      loads = 0;
       unit = 0;
     })
     (unloaded (replicate 256 0) unmarked)

@@ -9,7 +9,6 @@ use Rattle.decide.specs.Judge.{Lent}
 use Rattle.decide.specs.Steps.{first_short}
 use Rattle.decide.specs.declared.append.Append.{Append}
 use Rattle.decide.specs.declared.append.Append.TheVariants as append
-use Rattle.loads.specs.Loads.{number_left}
 use Rattle.vertex.specs.declared.Shared.{Shared}
 use Rattle.vertex.specs.Vertices.{floats_of, words_of}
 use Rattle.change.specs.declared.judge.Slot.{Slot}
@@ -127,11 +126,11 @@ early_answer s first count len at r =
     (BadLoad count first))
     BadState
 
--- the answer of a load that is due once all is settled: what is told of the matrix, the first table that is full, or table 10 where no number is left
+-- the answer of a load that is due once all is settled: what is told of the matrix, or the first table that is full
 unfoldable pub late_answer : Settled → State → ℕ → Rooms → Answer
 late_answer d s count r =
     let full = first_short (six_lent s.counts (more_by d s count) r) in
-    pick (eqb full 0) (pick (number_left s.loads) (Told (pick s.defined 0 1)) (NoRoom 10)) (NoRoom full)
+    pick (eqb full 0) (Told (pick s.defined 0 1)) (NoRoom full)
 
 -- what a load settles, by the state and what is in use of tables 1, 3 and 6
 abbrev pub settled_in : State → List Float → List Float → List ℤ → Settled

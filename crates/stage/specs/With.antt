@@ -17,9 +17,9 @@ Modes = record { opened : Bool; microcode : ℕ; geometry : ℕ; fogmul : ℤ; f
 abbrev pub Matrices : Type 0
 Matrices = record { depth : ℕ; stack : List Float; projection : List Float; combined : List Float; defined : Bool }
 
--- the parts that are records themselves, with the viewport in force, the number of accepted loads and the place of the unit scale entry
+-- the parts that are records themselves, with the viewport in force and the place of the unit scale entry
 abbrev pub Parts : Type 0
-Parts = record { viewport : List Float; texture : Texture; lights : Lights; lookat : Lookat; counts : Counts; loads : ℕ; unit : ℕ }
+Parts = record { viewport : List Float; texture : Texture; lights : Lights; lookat : Lookat; counts : Counts; unit : ℕ }
 
 -- the columns of the slots
 abbrev pub Slots : Type 0
@@ -44,7 +44,6 @@ state m x p l =
       lights = p.lights;
       lookat = p.lookat;
       counts = p.counts;
-      loads = p.loads;
       unit = p.unit;
       row = l.row;
       ever = l.ever;
@@ -66,7 +65,7 @@ matrices_of s = record { depth = s.depth; stack = s.stack; projection = s.projec
 
 -- its parts
 abbrev pub parts_of : State → Parts
-parts_of s = record { viewport = s.viewport; texture = s.texture; lights = s.lights; lookat = s.lookat; counts = s.counts; loads = s.loads; unit = s.unit }
+parts_of s = record { viewport = s.viewport; texture = s.texture; lights = s.lights; lookat = s.lookat; counts = s.counts; unit = s.unit }
 
 -- its slots
 abbrev pub slots_of : State → Slots
@@ -132,31 +131,27 @@ with_defined s x = with_matrices s (record { depth = s.depth; stack = s.stack; p
 
 -- another viewport in force
 abbrev pub with_viewport : State → List Float → State
-with_viewport s x = with_parts s (record { viewport = x; texture = s.texture; lights = s.lights; lookat = s.lookat; counts = s.counts; loads = s.loads; unit = s.unit })
+with_viewport s x = with_parts s (record { viewport = x; texture = s.texture; lights = s.lights; lookat = s.lookat; counts = s.counts; unit = s.unit })
 
 -- another texture state
 abbrev pub with_texture : State → Texture → State
-with_texture s x = with_parts s (record { viewport = s.viewport; texture = x; lights = s.lights; lookat = s.lookat; counts = s.counts; loads = s.loads; unit = s.unit })
+with_texture s x = with_parts s (record { viewport = s.viewport; texture = x; lights = s.lights; lookat = s.lookat; counts = s.counts; unit = s.unit })
 
 -- other lights
 abbrev pub with_lights : State → Lights → State
-with_lights s x = with_parts s (record { viewport = s.viewport; texture = s.texture; lights = x; lookat = s.lookat; counts = s.counts; loads = s.loads; unit = s.unit })
+with_lights s x = with_parts s (record { viewport = s.viewport; texture = s.texture; lights = x; lookat = s.lookat; counts = s.counts; unit = s.unit })
 
 -- another lookat
 abbrev pub with_lookat : State → Lookat → State
-with_lookat s x = with_parts s (record { viewport = s.viewport; texture = s.texture; lights = s.lights; lookat = x; counts = s.counts; loads = s.loads; unit = s.unit })
+with_lookat s x = with_parts s (record { viewport = s.viewport; texture = s.texture; lights = s.lights; lookat = x; counts = s.counts; unit = s.unit })
 
 -- other counts
 abbrev pub with_counts : State → Counts → State
-with_counts s x = with_parts s (record { viewport = s.viewport; texture = s.texture; lights = s.lights; lookat = s.lookat; counts = x; loads = s.loads; unit = s.unit })
-
--- another number of accepted loads
-abbrev pub with_loads : State → ℕ → State
-with_loads s x = with_parts s (record { viewport = s.viewport; texture = s.texture; lights = s.lights; lookat = s.lookat; counts = s.counts; loads = x; unit = s.unit })
+with_counts s x = with_parts s (record { viewport = s.viewport; texture = s.texture; lights = s.lights; lookat = s.lookat; counts = x; unit = s.unit })
 
 -- another place of the unit scale entry, plus 1
 abbrev pub with_unit : State → ℕ → State
-with_unit s x = with_parts s (record { viewport = s.viewport; texture = s.texture; lights = s.lights; lookat = s.lookat; counts = s.counts; loads = s.loads; unit = x })
+with_unit s x = with_parts s (record { viewport = s.viewport; texture = s.texture; lights = s.lights; lookat = s.lookat; counts = s.counts; unit = x })
 
 -- other rows of the slots
 abbrev pub with_row : State → List ℕ → State

@@ -86,8 +86,6 @@ pub struct State {
     pub drawn: [bool; 256],
     pub row: [u32; 256],
     pub z: [f64; 256],
-    // How many loads were accepted since opening: the last one's number. Elsewhere it would slow down draws (docs/SPEED.md).
-    pub loads: u32,
     // The place of the unit scale entry plus 1, or 0 where there is none yet.
     pub unit: u32,
 }

@@ -1,7 +1,7 @@
 // Load, clip codes and depths.
-ghost use Rattle.std.specs.Prelude.{◌≡◌, [], ◌+◌, ◌*◌, ◌≤◌, ◌<◌, min, length};
+ghost use Rattle.std.specs.Prelude.{◌≡◌, [], ◌+◌, ◌*◌, ◌≤◌, min, length};
 ghost use Rattle.areas.specs.Area.{entries};
-ghost use Rattle.areas.specs.Widths.{most, most_loads, matrix_width, scale_width, fog_width};
+ghost use Rattle.areas.specs.Widths.{most, matrix_width, scale_width, fog_width};
 ghost use Rattle.matrix.specs.Math.{rows, laid, times};
 ghost use Rattle.decide.specs.Family.{family_of};
 ghost use Rattle.decide.specs.Steps.{first_short};
@@ -247,9 +247,9 @@ impl State {
         }
     }
 
-    // What every row of the load shares. Asks for counts in their ranges, and for a number that is left for the load.
+    // What every row of the load shares. Asks for counts in their ranges.
     fn shared_by(self, d: Settled) -> Shared
-        requires { Ranged self d × (self.loads < most_loads) }
+        requires { Ranged self d }
         ensures { result ≡ shared_by d self }
     {
         let v = self.viewport;
@@ -264,7 +264,6 @@ impl State {
         let lights = decide::number::if_else(d.lit, self.lights.number + 1, 0);
         let fog = decide::number::if_else(d.foggy, d.fogat + 1, 0);
         let lookat = decide::number::if_else(d.texgen == 0, 0, place);
-        let load = loads::next(self.loads);
         Shared {
             matrix: matrix,
             viewport: viewport,
@@ -274,7 +273,6 @@ impl State {
             texgen: d.texgen,
             fog: fog,
             lookat: lookat,
-            load: load,
             zscale: v[2],
             ztranslation: v[5],
         }
@@ -368,8 +366,8 @@ impl State {
         Answer::Done
     }
 
-    // The answer that is due once all is settled: what is told of the matrix, the first table that is full, or table 10
-    // where no number is left. Asks for a light number in its range.
+    // The answer that is due once all is settled: what is told of the matrix, or the first table that is full. Asks for a
+    // light number in its range.
     fn late(self, d: Settled, count: u32, rooms: Rooms) -> Answer
         requires { self.lights.number ≤ 7 }
         ensures { result ≡ late_answer d self count rooms }
@@ -377,9 +375,6 @@ impl State {
         let full = short_table(self.counts, self.more_by(d, count), rooms);
         if full != 0 {
             return Answer::NoRoom(full);
-        }
-        if !loads::number_left(self.loads) {
-            return Answer::NoRoom(10);
         }
         Answer::Told(decide::number::if_else(self.defined, 0, 1))
     }
@@ -403,7 +398,6 @@ impl State {
                 texgen: 0,
                 fog: 0,
                 lookat: 0,
-                load: 0,
                 zscale: 0.0,
                 ztranslation: 0.0,
             },
@@ -534,11 +528,9 @@ impl State {
             let l = p.lights;
             let o = p.lookat;
             let counts = p.counts;
-            let number = p.shared.load;
             self.combined = combined;
             self.lights = l;
             self.lookat = o;
-            self.loads = number;
             self.counts = counts;
         }
         self.row = row;

@@ -66,7 +66,6 @@ fn blank_state(mark: bool, used: u32) -> State
             indices: 0,
             runs: 0,
         },
-        loads: 0,
         unit: 0,
         row: [0; 256],
         ever: [false; 256],

@@ -63,9 +63,6 @@ vertices-at s i (suc n) (suc k) d h =
     let e : i + 16 * suc k ≡ i + 16 + 16 * k = omega arith in
     rw e (vertices-at s (i + 16) n k d (le_of_suc-le-suc h))
 
--- eleven numbers from a place on: the places of the last two
+-- ten numbers from a place on: the place of the last
 pub add-nine : (n : ℕ) → n + 9 ≡ suc (suc (suc (suc (suc (suc (suc (suc (suc n))))))))
 add-nine n = omega arith
-
-pub add-ten : (n : ℕ) → n + 10 ≡ suc (suc (suc (suc (suc (suc (suc (suc (suc (suc n)))))))))
-add-ten n = omega arith

@@ -16,10 +16,10 @@ floats_of v =
     at v.pos 0 ∷ at v.pos 1 ∷ at v.pos 2 ∷ at v.st 0 ∷ at v.st 1
     ∷ math.zero ∷ math.zero ∷ math.zero ∷ math.zero ∷ []
 
--- the u32 of a row: modify flags, matrix, viewport, texture scale, colour word, first light, light count, texgen mode, fog, lookat, load
+-- the u32 of a row: modify flags, matrix, viewport, texture scale, colour word, first light, light count, texgen mode, fog, lookat
 unfoldable pub words_of : Shared → Vertex → List ℕ
 words_of e v =
-    0 ∷ e.matrix ∷ e.viewport ∷ e.scale ∷ v.colour ∷ e.light ∷ e.lights ∷ e.texgen ∷ e.fog ∷ e.lookat ∷ e.load ∷ []
+    0 ∷ e.matrix ∷ e.viewport ∷ e.scale ∷ v.colour ∷ e.light ∷ e.lights ∷ e.texgen ∷ e.fog ∷ e.lookat ∷ []
 
 -- the position in clip space, x y z w
 unfoldable pub clip_of : List (List Float) → Vertex → List Float

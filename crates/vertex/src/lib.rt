@@ -8,8 +8,8 @@ ghost use Rattle.vertex.specs.Vertices.{floats_of, words_of, slot_of};
 ghost use Rattle.vertex.specs.Steps.{RowsFit, Laid, Marked};
 
 use areas::widths::{
-    COLOUR_WORD, FOG_WORD, LIGHT_WORD, LIGHTS_WORD, LOAD_WORD, LOOKAT_WORD, MATRIX_WORD,
-    SCALE_WORD, TEXGEN_WORD, VIEWPORT_WORD,
+    COLOUR_WORD, FOG_WORD, LIGHT_WORD, LIGHTS_WORD, LOOKAT_WORD, MATRIX_WORD, SCALE_WORD,
+    TEXGEN_WORD, VIEWPORT_WORD,
 };
 use layout::records::Vertex;
 
@@ -19,7 +19,7 @@ pub const FLOATS: usize = areas::widths::FLOAT_WIDTH as usize;
 pub const WORDS: usize = areas::widths::WORD_WIDTH as usize;
 
 // What every row of a load shares: the numbers of its table entries, light count and texgen mode, fog as the row has it
-// (0, or place + 1), the number of the load, and the viewport's scale and translation for z.
+// (0, or place + 1), and the viewport's scale and translation for z.
 #[derive(Drop)]
 pub struct Shared {
     pub matrix: u32,
@@ -30,7 +30,6 @@ pub struct Shared {
     pub texgen: u32,
     pub fog: u32,
     pub lookat: u32,
-    pub load: u32,
     pub zscale: f32,
     pub ztranslation: f32,
 }
@@ -62,7 +61,7 @@ fn store_floats(floats: &mut [f32], at: usize, v: Vertex)
     floats[at + 8] = 0.0;
 }
 
-// Stores the row's eleven words likewise: what the load's rows share and the colour word of `v`, the modify flags 0.
+// Stores the row's ten words likewise: what the load's rows share and the colour word of `v`, the modify flags 0.
 fn store_words(words: &mut [u32], at: usize, e: Shared, v: Vertex)
     requires { at + word_width ≤ length words.old }
     ensures { words.new ≡ put words.old at (words_of e v) }
@@ -77,7 +76,6 @@ fn store_words(words: &mut [u32], at: usize, e: Shared, v: Vertex)
     words[at + TEXGEN_WORD] = e.texgen;
     words[at + FOG_WORD] = e.fog;
     words[at + LOOKAT_WORD] = e.lookat;
-    words[at + LOAD_WORD] = e.load;
 }
 
 // What the slot of `v` gets, its position taken through m.

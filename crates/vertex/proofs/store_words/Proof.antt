@@ -2,7 +2,7 @@ use native.Mathlib.Omega.{arith}
 use native.Mathlib.Numerals.{towards_suc}
 use lib.ListN.{length-set}
 use Rattle.areas.specs.Area.{put}
-use Rattle.vertex.proofs.Believe.{add-nine, add-ten}
+use Rattle.vertex.proofs.Believe.{add-nine}
 use Rattle.vertex.specs.Vertices.{words_of}
 use borrow.Author.Rules.{rules}
 use Rattle.vertex.proofs.store_words.Statement.{statement}
@@ -97,21 +97,12 @@ mul-words-10 c = search rules
 slice-write-words-10 : tie.Need-slice-write-words-10
 slice-write-words-10 c = simp length-set (omega arith)
 
-add-words-10 : tie.Need-overflow-add-words-10
-add-words-10 c = search rules
-
-mul-words-11 : tie.Need-overflow-mul-words-11
-mul-words-11 c = search rules
-
-slice-write-words-11 : tie.Need-slice-write-words-11
-slice-write-words-11 c = simp length-set (omega arith)
-
 same_length : tie.Need-same-length
 same_length c = simp length-set
 
 returns : tie.Need-returns
 unfolding put words_of
-returns c = simp (towards_suc, add-nine, add-ten)
+returns c = simp (towards_suc, add-nine)
 
 pub store-words-spec : {M : Type 1} → statement M
 store-words-spec =
@@ -146,8 +137,5 @@ store-words-spec =
     add-words-9
     mul-words-10
     slice-write-words-10
-    add-words-10
-    mul-words-11
-    slice-write-words-11
     same_length
     returns)

@@ -51,13 +51,9 @@ returns-6 c = rw c.match.keys6
 
 returns-7 : tie.Need-returns-7
 unfolding poked_state
-returns-7 c = rw c.match.keys7
-
-returns-8 : tie.Need-returns-8
-unfolding poked_state
-returns-8 c =
+returns-7 c =
     no_field c.before.args.s c.before.args.index c.before.args.value _
-    (past (past (past (past (past (past (zero-le) c.match.rest.0.0.0.0.0.0.1) c.match.rest.0.0.0.0.0.1) c.match.rest.0.0.0.0.1) c.match.rest.0.0.0.1) c.match.rest.0.0.1) c.match.rest.0.1) c.match.rest.1
+    (past (past (past (past (past (zero-le) c.match.rest.0.0.0.0.0.1) c.match.rest.0.0.0.0.1) c.match.rest.0.0.0.1) c.match.rest.0.0.1) c.match.rest.0.1) c.match.rest.1
 
 pub poked-spec : {M : Type 1} → statement M
 poked-spec =
@@ -75,5 +71,4 @@ poked-spec =
     returns-4
     returns-5
     returns-6
-    returns-7
-    returns-8)
+    returns-7)

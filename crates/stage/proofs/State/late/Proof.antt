@@ -4,7 +4,6 @@ use Rattle.decide.specs.Steps.{first_short}
 use Rattle.stage.specs.declared.load.More.{More}
 use Rattle.stage.specs.Plan.{pick}
 use Rattle.stage.specs.Steps.{six_lent, more_by, late_answer}
-use Rattle.stage.proofs.Cascade.{fails, holds}
 use borrow.Author.Rules.{rules}
 use Rattle.stage.proofs.State.late.Statement.{statement}
 use Rattle.stage.proofs.State.late.Tie as tie
@@ -24,20 +23,13 @@ returns : tie.Need-returns
 unfolding late_answer pick
 returns c = rw (← fullest c.before, ne_eqb _ _ c.if1.true)
 
-number-left-requires : tie.Need-number-left-requires
-number-left-requires c κs = tt
-
-returns-2 : tie.Need-returns-2
-unfolding late_answer pick
-returns-2 c = rw (← fullest c.before.before.before, eq-eqb _ _ c.before.before.if1.false, fails c.before.number-left.ensures c.if2.true)
-
 if-else-requires : tie.Need-if-else-requires
 if-else-requires c κs = tt
 
-returns-3 : tie.Need-returns-3
+returns-2 : tie.Need-returns-2
 unfolding late_answer pick
-returns-3 c = rw (← fullest c.before.before.before.before, eq-eqb _ _ c.before.before.before.if1.false, holds c.before.before.number-left.ensures c.before.if2.false, c.if-else.ensures)
+returns-2 c = rw (← fullest c.before.before, eq-eqb _ _ c.before.if1.false, c.if-else.ensures)
 
 pub late-spec : {M : Type 1} → statement M
 late-spec =
-    tie.close (tie.spec more-by-requires short-table-requires returns number-left-requires returns-2 if-else-requires returns-3)
+    tie.close (tie.spec more-by-requires short-table-requires returns if-else-requires returns-2)

@@ -11,7 +11,7 @@ use Rattle.stage.specs.declared.Answer.TheVariants.{Told}
 use Rattle.stage.specs.declared.load.Rooms.{Rooms}
 use Rattle.stage.specs.declared.load.Settled.{Settled}
 use Rattle.stage.specs.Load.{LoadAreas, load_areas}
-use Rattle.stage.specs.With.{Slots, slots_of, with_counts, with_combined, with_lights, with_lookat, with_loads}
+use Rattle.stage.specs.With.{Slots, slots_of, with_counts, with_combined, with_lights, with_lookat}
 use Rattle.stage.specs.Steps.{settled_in, Ready, rooms_of}
 use Rattle.stage.proofs.Loading.{refused-load, rows_fit, done-load, is-ready, is-refused, left}
 use borrow.Author.Rules.{rules}
@@ -115,7 +115,7 @@ returns c =
     let x = g.settle.new in
     ⊎_elim
     (λ w.
-    left m.self (with_counts (with_loads (with_lookat (with_lights (with_combined a.self p.combined a.self.defined) p.lights) p.lookat) p.shared.load) p.counts) (columns c)
+    left m.self (with_counts (with_lookat (with_lights (with_combined a.self p.combined a.self.defined) p.lights) p.lookat) p.counts) (columns c)
     (record { row = w.16.last.1.1.0; ever = w.16.last.1.1.1.0; loaded = w.16.last.1.1.1.1.0; drawn = w.16.last.1.1.1.1.1.0; coded = w.16.last.1.1.1.1.1.1.0; code = w.16.last.1.1.1.1.1.1.1.0; deep = w.16.last.1.1.1.1.1.1.1.1.0; z = w.16.last.1.1.1.1.1.1.1.1.1.0 })
     m.answer p.answer (after g m.floats m.words) (after g w.16.last.0 w.16.last.1.0)
     w.24 w.27 w.28 w.29 w.30 w.31 w.32 w.33 w.34 (w.35 ∙ sym w.1.given.1) refl refl refl refl refl w.25 w.26

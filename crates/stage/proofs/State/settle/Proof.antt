@@ -5,7 +5,7 @@ use Rattle.stage.specs.declared.load.Rooms.{Rooms}
 use Rattle.stage.specs.Answers.{number}
 use Rattle.stage.specs.Steps.{rooms_of, early_answer, Ranged}
 use Rattle.stage.proofs.Judged.{Ranges}
-use Rattle.stage.proofs.Loading.{sound-early, refuses-early, passes-early, refuses-late, passes-late, rows-count, number-left, ranged}
+use Rattle.stage.proofs.Loading.{sound-early, refuses-early, passes-early, refuses-late, passes-late, rows-count, ranged}
 use borrow.Author.Rules.{rules}
 use Rattle.stage.proofs.State.settle.Statement.{statement}
 use Rattle.stage.proofs.State.settle.Tie as tie
@@ -105,12 +105,7 @@ returns-2 c =
     ))
 
 shared-by-requires : tie.Need-shared-by-requires
-shared-by-requires c κs =
-    let k = c.before.before in
-    let d = k.before.before in
-    let a = (start (judged d).before).args in
-    let r = (judged d).before.before.rooms-of in
-    (settled-range d, number-left a.self d.settled-by.result a.count r.result k.before.late.result k.before.late.ensures (told k))
+shared-by-requires c κs = settled-range c.before.before.before.before
 
 tables-written-requires : tie.Need-tables-written-requires
 unfolding rooms_of

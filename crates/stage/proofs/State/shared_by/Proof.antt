@@ -54,30 +54,26 @@ if-else-requires-7 c κs = tt
 if-else-requires-8 : tie.Need-if-else-requires-8
 if-else-requires-8 c κs = tt
 
-next-requires : tie.Need-next-requires
-next-requires c κs = search rules
+array-read-t20 : tie.Need-array-read-t20
+array-read-t20 c = search rules
 
-array-read-t21 : tie.Need-array-read-t21
-array-read-t21 c = search rules
-
-array-read-t24 : tie.Need-array-read-t24
-array-read-t24 c = search rules
+array-read-t23 : tie.Need-array-read-t23
+array-read-t23 c = search rules
 
 returns : tie.Need-returns
 unfolding shared_by
 returns c =
-    let d = c.before.before.before.before.before.before.before.before.before.before.before.before.before.before.before.before.args.d in
-    let s = c.before.before.before.before.before.before.before.before.before.before.before.before.before.before.before.before.args.self in
+    let d = c.before.before.before.before.before.before.before.before.before.before.before.before.before.before.before.args.d in
+    let s = c.before.before.before.before.before.before.before.before.before.before.before.before.before.before.before.args.self in
     λ i. record {
-      matrix = (c.before.before.before.before.before.before.before.before.before.before.before.before.before.less_one.ensures ∙ ap (λ (n : ℕ). n - 1) (c.before.before.before.before.before.before.before.before.before.before.before.before.before.before.if-else.ensures ∙ counted_if d.newmatrix d.combined s.counts.matrices)) i;
-      viewport = c.before.before.before.before.before.before.before.before.before.before.before.before.less-one2.ensures i;
-      scale = (c.before.before.before.before.before.before.before.before.before.before.less-one3.ensures ∙ ap (λ (n : ℕ). n - 1) (c.before.before.before.before.before.before.before.before.before.before.before.if-else2.ensures ∙ counted_if d.newscale d.scales s.counts.scales)) i;
-      light = (c.before.before.before.before.before.before.before.if-else5.ensures ∙ ap (λ (n : ℕ). pick d.lit n 0) (c.before.before.before.before.before.before.before.before.before.if-else3.ensures ∙ first_of d.newlights s.lights d.model s.counts.lights)) i;
-      lights = c.before.before.before.before.before.if-else6.ensures i;
+      matrix = (c.before.before.before.before.before.before.before.before.before.before.before.before.less_one.ensures ∙ ap (λ (n : ℕ). n - 1) (c.before.before.before.before.before.before.before.before.before.before.before.before.before.if-else.ensures ∙ counted_if d.newmatrix d.combined s.counts.matrices)) i;
+      viewport = c.before.before.before.before.before.before.before.before.before.before.before.less-one2.ensures i;
+      scale = (c.before.before.before.before.before.before.before.before.before.less-one3.ensures ∙ ap (λ (n : ℕ). n - 1) (c.before.before.before.before.before.before.before.before.before.before.if-else2.ensures ∙ counted_if d.newscale d.scales s.counts.scales)) i;
+      light = (c.before.before.before.before.before.before.if-else5.ensures ∙ ap (λ (n : ℕ). pick d.lit n 0) (c.before.before.before.before.before.before.before.before.if-else3.ensures ∙ first_of d.newlights s.lights d.model s.counts.lights)) i;
+      lights = c.before.before.before.before.if-else6.ensures i;
       texgen = d.texgen;
-      fog = c.before.before.before.if-else7.ensures i;
-      lookat = (c.before.if-else8.ensures ∙ ap (λ (n : ℕ). pick (eqb d.texgen 0) 0 n) (c.before.before.before.before.before.before.before.before.if-else4.ensures ∙ place_of d.newlookat s.lookat d.model s.counts.lookats)) i;
-      load = c.next.ensures i;
+      fog = c.before.before.if-else7.ensures i;
+      lookat = (c.if-else8.ensures ∙ ap (λ (n : ℕ). pick (eqb d.texgen 0) 0 n) (c.before.before.before.before.before.before.before.if-else4.ensures ∙ place_of d.newlookat s.lookat d.model s.counts.lookats)) i;
       zscale = at s.viewport 2;
       ztranslation = at s.viewport 5;
     }
@@ -101,7 +97,6 @@ shared-by-spec =
     add-if-else-4
     if-else-requires-7
     if-else-requires-8
-    next-requires
-    array-read-t21
-    array-read-t24
+    array-read-t20
+    array-read-t23
     returns)

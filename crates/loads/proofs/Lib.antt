@@ -1,2 +1,0 @@
-pub mod Looking
-pub mod Believe
