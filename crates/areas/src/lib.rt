@@ -1,4 +1,6 @@
 // A lent area: numbers in a slice, read as entries of one width that stand end to end.
+#![tactic(auto)]
+
 ghost use Rattle.std.specs.Prelude.{◌≡◌, ℕ, ◌+◌, ◌*◌, ◌≤◌, length};
 ghost use Rattle.std.specs.Float.Ieee.{eq};
 ghost use Rattle.areas.specs.Area.{room, part, put, matches, eqbℤ};

@@ -9,7 +9,7 @@ use crate::{Asked, Change};
 use areas::widths::{FLOAT_WIDTH, WORD_WIDTH};
 
 // What the state has of the slot: whether it is loaded, whether it was drawn since its row was made, and its row.
-#[derive(Drop)]
+#[derive(Clone, Copy)]
 pub struct Slot {
     pub loaded: bool,
     pub drawn: bool,
@@ -18,7 +18,7 @@ pub struct Slot {
 
 // What the judge looks at of tables 3 and 7: the entries in use, how many there is room for, and the place of the unit
 // scale entry plus 1, or 0 where there is none yet.
-#[derive(Drop)]
+#[derive(Clone, Copy)]
 pub struct Tables {
     pub scales: u32,
     pub scaleroom: usize,
@@ -28,7 +28,7 @@ pub struct Tables {
 }
 
 // What an accepted change comes to: the slot's row, the counts and the mark of the unit scale entry then.
-#[derive(Drop)]
+#[derive(Clone, Copy)]
 pub struct Moved {
     pub row: u32,
     pub rows: u32,
@@ -37,7 +37,7 @@ pub struct Moved {
 }
 
 // Why a change is refused: Unknown is refusal 5, NoRow 10, Short 8 and Full 9, the last two with the table's number.
-#[derive(Drop)]
+#[derive(Clone, Copy)]
 pub enum Refusal {
     Unknown,
     NoRow,
@@ -46,7 +46,7 @@ pub enum Refusal {
 }
 
 // What the judge finds.
-#[derive(Drop)]
+#[derive(Clone, Copy)]
 pub enum Verdict {
     No(Refusal),
     Go(Change, Moved),

@@ -1,5 +1,7 @@
 // A vertex row changed in place or in a copy: the change asked for, what it does to a row's numbers, and the judge that
 // stands before it.
+#![tactic(auto)]
+
 ghost use Rattle.std.specs.Prelude.{◌≡◌, ◌/◌, ◌%◌};
 ghost use Rattle.std.specs.Float.{binary32};
 ghost use Rattle.numbers.specs.Ratio.{signed, of_ratio};
@@ -9,7 +11,7 @@ pub mod judge;
 pub mod remake;
 
 // A change of a row, with its decoded values: the colour word; s and t; screen x and y; screen z, and the slot's own.
-#[derive(Drop)]
+#[derive(Clone, Copy)]
 pub enum Change {
     Colour(u32),
     Texture(f32, f32),
@@ -18,7 +20,7 @@ pub enum Change {
 }
 
 // What an attribute number asks for.
-#[derive(Drop)]
+#[derive(Clone, Copy)]
 pub enum Asked {
     Known(Change),
     Unknown,

@@ -11,7 +11,7 @@ ghost use Rattle.decide.specs.Steps.{Ended, ended, Put, put_by};
 use areas::widths::{FOG_WIDTH, MATRIX_WIDTH, SCALE_WIDTH, VIEWPORT_WIDTH};
 
 // What became of the entry: it was there last, or it was appended, or there was no room for it.
-#[derive(Drop)]
+#[derive(Clone, Copy)]
 pub enum Append {
     Kept,
     Grew,

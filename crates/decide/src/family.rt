@@ -3,7 +3,7 @@
 ghost use Rattle.std.specs.Prelude.{◌≡◌};
 ghost use Rattle.decide.specs.Family.{family_of};
 
-#[derive(Drop)]
+#[derive(Clone, Copy)]
 pub struct Family {
     pub push: u32,
     pub load: u32,

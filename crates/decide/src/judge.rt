@@ -36,7 +36,7 @@ pub fn slots_there(slots: u32, first: u32, count: u32) -> bool
 }
 
 // A table as refusals 8 and 9 see it: entries in use, entries to be appended, room.
-#[derive(Drop)]
+#[derive(Clone, Copy)]
 pub struct Fill {
     pub used: u32,
     pub more: u32,

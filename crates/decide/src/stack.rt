@@ -67,7 +67,7 @@ pub fn top_at(s: &[f32; 512], depth: u32) -> [[f32; 4]; 4]
 }
 
 // A matrix taken: the depth and the projection then.
-#[derive(Drop)]
+#[derive(Clone, Copy)]
 pub struct Turned {
     pub depth: u32,
     pub projection: [f32; 16],
@@ -111,7 +111,7 @@ pub fn product_of(top: [[f32; 4]; 4], projection: [f32; 16]) -> [f32; 16]
 }
 
 // A matrix taken by the flags of a word: the depth, the projection and the top times it then.
-#[derive(Drop)]
+#[derive(Clone, Copy)]
 pub struct Taken {
     pub depth: u32,
     pub projection: [f32; 16],

@@ -131,7 +131,7 @@ fn number_of(a: Answer) -> u32
 }
 
 // What is returned with the number: the first `count` of these.
-#[derive(Drop)]
+#[derive(Clone, Copy)]
 struct Values {
     count: u8,
     list: [u32; 5],

@@ -2,7 +2,7 @@
 use crate::show;
 use stage::State;
 
-#[derive(Drop)]
+#[derive(Clone, Copy)]
 struct Slot {
     row: u32,
     ever: bool,

@@ -1,4 +1,6 @@
 // What a load works out from plain values before it writes rows: folded lights and lookat, the fog pair's place, texture scales.
+#![tactic(auto)]
+
 pub mod decision;
 pub mod direction;
 pub mod fog;

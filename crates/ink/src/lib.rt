@@ -1,4 +1,6 @@
 // The ink of a row, and the indices that have a given one.
+#![tactic(auto)]
+
 ghost use Rattle.std.specs.Prelude.{◌≡◌, ◌+◌, ◌*◌, ◌≤◌, length};
 ghost use Rattle.areas.specs.Area.{part, entries};
 ghost use Rattle.areas.specs.Widths.{word_width, index_width};

@@ -1,5 +1,7 @@
 // What gbi.h lays out in bytes, big-endian, read from a place of a slice. Short data is judged before anything is read,
 // so these ask for the bytes that they read: a test of each would be paid at every vertex.
+#![tactic(auto)]
+
 ghost use Rattle.std.specs.Prelude.{◌≡◌, ◌+◌, ◌≤◌, ◌<◌, length};
 ghost use Rattle.numbers.specs.Choice.{pick};
 ghost use Rattle.layout.specs.Layout.{byte_at, half_at, word_at, signed_at, ratio_at, entry_at, row_at, matrix_at, exact_at, noes, inexact_at, vertex_at, triple_at, viewport_at, colour_at, axis_at, direction_at, light_at};

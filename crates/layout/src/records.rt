@@ -1,7 +1,7 @@
 // What the readers answer.
 
 // A vertex: position, texture coordinates s and t, and the colour word, in which the first of four bytes is lowest.
-#[derive(Drop)]
+#[derive(Clone, Copy)]
 pub struct Vertex {
     pub pos: [f32; 3],
     pub st: [f32; 2],
@@ -9,14 +9,14 @@ pub struct Vertex {
 }
 
 // A viewport: scale and translation of x, y and z.
-#[derive(Drop)]
+#[derive(Clone, Copy)]
 pub struct Viewport {
     pub scale: [f32; 3],
     pub translation: [f32; 3],
 }
 
 // A light: its direction and its colour.
-#[derive(Drop)]
+#[derive(Clone, Copy)]
 pub struct Light {
     pub direction: [f32; 3],
     pub colour: [f32; 3],

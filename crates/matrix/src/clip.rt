@@ -3,14 +3,14 @@ ghost use Rattle.std.specs.Prelude.{◌≡◌, ◌≤◌};
 ghost use Rattle.matrix.specs.Clip.{bit_of, bits_of, all_finite, code_of, screen_of, depth_of};
 
 // Bits 0 to 5: x < -w, x > w, y < -w, y > w, z < -w, z > w. `some` is false, and `bits` 0, where there is no code.
-#[derive(Drop)]
+#[derive(Clone, Copy)]
 pub struct ClipCode {
     pub some: bool,
     pub bits: u8,
 }
 
 // `some` is false, and `z` 0, where there is no screen z.
-#[derive(Drop)]
+#[derive(Clone, Copy)]
 pub struct ScreenZ {
     pub some: bool,
     pub z: f64,

@@ -1,9 +1,11 @@
 // The geometry mode word: what a mode word leaves of it, and two neighbouring mode words as one.
+#![tactic(auto)]
+
 ghost use Rattle.std.specs.Prelude.{◌≡◌};
 ghost use Rattle.mode.specs.Word.{geometry_after, joined};
 
 // The two masks of a geometry mode command: `off` has the bits that are kept, `on` those that are set then.
-#[derive(Drop)]
+#[derive(Clone, Copy)]
 pub struct ModeWord {
     pub off: u32,
     pub on: u32,

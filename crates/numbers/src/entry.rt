@@ -3,7 +3,7 @@ ghost use Rattle.std.specs.Prelude.{◌≡◌};
 ghost use Rattle.numbers.specs.Ratio.{entry, exact};
 
 // The value, rounded once, and whether nothing was lost.
-#[derive(Drop)]
+#[derive(Clone, Copy)]
 pub struct Entry {
     pub value: f32,
     pub exact: bool,

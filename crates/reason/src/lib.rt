@@ -1,11 +1,13 @@
 // The reason for the cull test's answer, from the slots' clip codes: the explainer's own part, over plain numbers.
+#![tactic(auto)]
+
 ghost use Rattle.std.specs.Prelude.{◌≡◌, ◌<◌, min};
 ghost use Rattle.decide.specs.Family.{flag};
 ghost use Rattle.reason.specs.Reason.{slots_to, codes_at, first_inside, reason, told};
 
 // Yes: every slot lies outside this side plane, 0 to 3, and not so for a lower one. No: for each side plane, 0 to 3, the
 // first slot that is not outside it.
-#[derive(Drop)]
+#[derive(Clone, Copy)]
 pub enum Reason {
     AllOutside(u32),
     FirstInside(u32, u32, u32, u32),

@@ -1,4 +1,6 @@
 // Replays a trace from standard input over the stage: a line for each op, and at the end the dump.
+#![tactic(auto)]
+
 ghost use Rattle.std.specs.Prelude.{◌≡◌, ◌≤◌, length};
 ghost use Rattle.trace.specs.Header.{header_size, lengths_of, Within};
 ghost use Rattle.player.specs.Ops.{areas_of};

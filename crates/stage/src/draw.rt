@@ -53,7 +53,7 @@ fn answer_of(v: Verdict) -> Answer
 }
 
 // The corners of three slots.
-#[derive(Drop)]
+#[derive(Clone, Copy)]
 pub struct Corners {
     pub p: Corner,
     pub q: Corner,

@@ -1,5 +1,7 @@
 // The geometry stage: its state, its answers and its commands, a file for each group of commands. docs/REFERENCE.md has the rules in
 // words; a number in brackets behind a command's name is the section.
+#![tactic(auto)]
+
 pub mod draw;
 pub mod load;
 pub mod matrices;
@@ -7,7 +9,7 @@ pub mod modify;
 pub mod settings;
 
 // How many entries of each table are in use, tables 1 to 9.
-#[derive(Drop)]
+#[derive(Clone, Copy)]
 pub struct Counts {
     pub matrices: u32,
     pub viewports: u32,
@@ -21,7 +23,7 @@ pub struct Counts {
 }
 
 // What the texture command stores, as it was given.
-#[derive(Drop)]
+#[derive(Clone, Copy)]
 pub struct Texture {
     pub tile: u8,
     pub level: u8,
@@ -32,7 +34,7 @@ pub struct Texture {
 
 // The lights: eight slots, direction and colour apart, and the ambient colour. `number` are in use. `folded` says that
 // some were folded since opening: then `top` is the model matrix that it was done with, `first` their place in table 4.
-#[derive(Drop)]
+#[derive(Clone, Copy)]
 pub struct Lights {
     pub number: u32,
     pub directions: [f32; 24],
@@ -45,7 +47,7 @@ pub struct Lights {
 }
 
 // The lookat axes S and T; the rest as for the lights, `place` in table 5.
-#[derive(Drop)]
+#[derive(Clone, Copy)]
 pub struct Lookat {
     pub axes: [f32; 6],
     pub changed: bool,
@@ -56,7 +58,7 @@ pub struct Lookat {
 
 // All that the commands keep between them. A value under a cleared mark is 0, so that a state is determined. In this
 // order a command takes out the columns that it writes, and where the compiler splits the state the rest costs no copy (docs/SPEED.md).
-#[derive(Drop)]
+#[derive(Clone, Copy)]
 pub struct State {
     // The model stack: `depth` matrices of sixteen numbers in use, the last of them the top.
     pub stack: [f32; 512],
@@ -92,7 +94,7 @@ pub struct State {
 
 // What a command answers (3). `Done`, `Told` and the explainer's two are number 0; the refusals stand in the order of their
 // numbers, 1 to 10.
-#[derive(Drop)]
+#[derive(Clone, Copy)]
 pub enum Answer {
     Done,
     // The notice of a load, 1 for yes and 0 for no, or a count.
@@ -114,7 +116,7 @@ pub enum Answer {
 }
 
 // What a command hands back.
-#[derive(Drop)]
+#[derive(Clone, Copy)]
 pub struct Answered {
     pub state: State,
     pub answer: Answer,

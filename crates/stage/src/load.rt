@@ -20,7 +20,7 @@ use vertex::Shared;
 // What a load settles before any row: the combined matrix in force and whether it is appended; the texture scales and
 // whether they are; the model top, whether lit, and whether lights are folded with it; the texgen mode and whether the
 // lookat axes are; whether there is fog, the place of its pair, and whether it is appended.
-#[derive(Drop)]
+#[derive(Clone, Copy)]
 pub struct Settled {
     pub combined: [f32; 16],
     pub newmatrix: bool,
@@ -37,7 +37,7 @@ pub struct Settled {
 }
 
 // How many entries are to be appended to each table of a load.
-#[derive(Drop)]
+#[derive(Clone, Copy)]
 pub struct More {
     pub matrices: u32,
     pub scales: u32,
@@ -48,7 +48,7 @@ pub struct More {
 }
 
 // How many entries each table of a load has room for.
-#[derive(Drop)]
+#[derive(Clone, Copy)]
 pub struct Rooms {
     pub matrices: usize,
     pub scales: usize,
@@ -60,7 +60,7 @@ pub struct Rooms {
 
 // What a load has ready before its rows: its answer, and where that tells of the matrix what the rows share, the counts, and the parts of the
 // state that it sets.
-#[derive(Drop)]
+#[derive(Clone, Copy)]
 pub struct Prepared {
     pub answer: Answer,
     pub shared: Shared,

@@ -10,7 +10,7 @@ use crate::{Answer, Answered, Lights, Lookat, State, Texture};
 use layout::records::Light;
 
 // The microcodes between which a caller may change.
-#[derive(Drop)]
+#[derive(Clone, Copy)]
 pub enum Microcode {
     F3dex2,
     F3dex2NoN,

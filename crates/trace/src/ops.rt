@@ -49,7 +49,7 @@ pub const POKE: u8 = 0x22;
 pub const WRITE: u8 = 0x23;
 
 // What follows an op: so many arguments, a word each, and then, where `bytes` is set, a length and that many bytes.
-#[derive(Drop)]
+#[derive(Clone, Copy)]
 pub struct Shape {
     pub known: bool,
     pub arguments: u8,

@@ -5,7 +5,7 @@ ghost use Rattle.trace.specs.Script.{word_at, args_of, size_of, data_of, cut_of,
 use crate::ops::Shape;
 
 // The seven words from an op's first argument on. An op reads as many as it has arguments.
-#[derive(Drop)]
+#[derive(Clone, Copy)]
 pub struct Args {
     pub a: u32,
     pub b: u32,
@@ -18,7 +18,7 @@ pub struct Args {
 
 // An op. Its data are the bytes from `from` up to `to`, where the next op stands. It is not whole where the op is unknown
 // or the script ends before it does; then the rest of the script is skipped.
-#[derive(Drop)]
+#[derive(Clone, Copy)]
 pub struct Call {
     pub whole: bool,
     pub op: u8,

@@ -8,7 +8,7 @@ ghost use Rattle.triangle.specs.Steps.{six, seen, last_of};
 use areas::widths::{COUNT_FIELD, RUN_WIDTH, START_FIELD};
 
 // Cull and unclipped are 0 or 1.
-#[derive(Drop)]
+#[derive(Clone, Copy)]
 pub struct Settings {
     pub material: u32,
     pub mode: u32,
@@ -19,7 +19,7 @@ pub struct Settings {
 }
 
 // What a draw looks at of the last run: whether there is one, its start and count, and whether it has the draw's settings.
-#[derive(Drop)]
+#[derive(Clone, Copy)]
 pub struct Last {
     pub used: bool,
     pub start: u32,

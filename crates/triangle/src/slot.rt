@@ -7,7 +7,7 @@ ghost use Rattle.triangle.specs.Steps.{corner_at, sides_of};
 use decide::family::Family;
 
 // A corner of a triangle: its slot, whether that was ever loaded, and the slot's row.
-#[derive(Drop)]
+#[derive(Clone, Copy)]
 pub struct Corner {
     pub slot: u32,
     pub known: bool,
@@ -15,7 +15,7 @@ pub struct Corner {
 }
 
 // What a geometry mode word says of the sides of a triangle: both are culled, one at least is, the front only is.
-#[derive(Drop)]
+#[derive(Clone, Copy)]
 pub struct Sides {
     pub both: bool,
     pub cull: bool,

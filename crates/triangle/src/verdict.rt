@@ -9,7 +9,7 @@ use crate::slot::Corner;
 use areas::widths::{INDEX_WIDTH, RUN_WIDTH};
 
 // A refusal, or nothing to draw, or a triangle to record.
-#[derive(Drop)]
+#[derive(Clone, Copy)]
 pub enum Verdict {
     Unsound,
     Nothing,
@@ -22,7 +22,7 @@ pub enum Verdict {
 }
 
 // Of tables 7, 8 and 9 the entries in use, and of 8 and 9 how many numbers the areas have.
-#[derive(Drop)]
+#[derive(Clone, Copy)]
 pub struct Tables {
     pub rows: u32,
     pub indices: u32,

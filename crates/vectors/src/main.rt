@@ -1,5 +1,7 @@
 // Runs a script of test vectors from standard input over `numbers` and `matrix`, and writes the answer to each in a line.
 // The script and the lines that must come out are made by make.py, which calculates with exact fractions.
+#![tactic(auto)]
+
 ghost use Rattle.std.specs.Prelude.{◌<◌, ◌≤◌, length};
 
 mod apply;

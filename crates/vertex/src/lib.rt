@@ -1,5 +1,7 @@
 // The vertices of a load: the row of each in table 7, and what its slot gets, made from the vertex and from what the rows of
 // a load share. The columns of the slots are lent; no state is here.
+#![tactic(auto)]
+
 ghost use Rattle.std.specs.Prelude.{◌≡◌, ◌+◌, ◌*◌, ◌≤◌, length};
 ghost use Rattle.areas.specs.Area.{put};
 ghost use Rattle.areas.specs.Widths.{float_width, word_width};
@@ -20,7 +22,7 @@ pub const WORDS: usize = areas::widths::WORD_WIDTH as usize;
 
 // What every row of a load shares: the numbers of its table entries, light count and texgen mode, fog as the row has it
 // (0, or place + 1), and the viewport's scale and translation for z.
-#[derive(Drop)]
+#[derive(Clone, Copy)]
 pub struct Shared {
     pub matrix: u32,
     pub viewport: u32,
@@ -35,7 +37,7 @@ pub struct Shared {
 }
 
 // What a slot gets: its clip code and its screen z, each with a mark that says whether there is one.
-#[derive(Drop)]
+#[derive(Clone, Copy)]
 pub struct Slot {
     pub coded: bool,
     pub code: u8,
