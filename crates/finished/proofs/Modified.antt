@@ -28,7 +28,7 @@ use Rattle.finished.proofs.Growing.{InUse, Sound, Grown}
 use Rattle.finished.proofs.Standing.{Standing, tables-grow, row-filled, row-changed}
 use Rattle.finished.proofs.Settled.{longer-if}
 use Rattle.sequence.proofs.Counted.{counted-then}
-use Rattle.sequence.proofs.Placed.{word_after, word_after}
+use Rattle.sequence.proofs.Placed.{word_after, reads-word_after}
 use Rattle.finished.proofs.Ties.{parts_of, CurrentIn, Inv, grown-same}
 
 -- ---- a row with the change made in it
@@ -57,14 +57,14 @@ module _ (t : Entries) (u : ℕ) where
   change-shown : (c : Change) (r : Row) → UnitAt c → Sound t r → shown t (row_after c u r) ≡ changed_by c (shown t r)
   unfolding shown
   change-shown c r h s =
-      let W = word_after c (u - 1) r.words s.wide in
+      let W = reads-word_after c (u - 1) r.words s.wide in
       let e : shown t (row_after c u r) ≡ shown_by t (floats_after c r.floats) (word_after c (u - 1) (row_word r)) =
       λ i. shown_by t (floats_after c r.floats) (λ j. W.at j i) in
       e ∙ by_place c r.floats (row_word r) h
 
   change-sound : (c : Change) (r : Row) → UnitAt c → Sound t r → Sound t (row_after c u r)
   change-sound c r h s =
-      let W = word_after c (u - 1) r.words s.wide in
+      let W = reads-word_after c (u - 1) r.words s.wide in
       let e : row_word (row_after c u r) ≡ word_after c (u - 1) (row_word r) = λ i j. W.at j i in
       record { wide = W.wide; in_use = subst (InUse t) (sym e) (in-use-then c (row_word r) h s.in_use) }
 

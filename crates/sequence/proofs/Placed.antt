@@ -38,9 +38,9 @@ word_after (Texture y z) u g = instead (instead (instead g scale_word u) texgen_
 word_after (Screen y z) u g = instead g flags_word (bit_or (g flags_word) 1)
 word_after (Depth z own) u g = instead g flags_word (bit_or (g flags_word) 2)
 
-pub word_after : (c : Change) (u : ℕ) (l : List ℕ) → length l ≡ word_width → Reads word_width (words_after c u l) (word_after c u (λ j. get_or l j 0))
+pub reads-word_after : (c : Change) (u : ℕ) (l : List ℕ) → length l ≡ word_width → Reads word_width (words_after c u l) (word_after c u (λ j. get_or l j 0))
 unfolding words_after
-word_after c u l n = go c
+reads-word_after c u l n = go c
   where
     R : Reads word_width l (λ j. get_or l j 0)
     R = record { wide = n; at = λ j. refl }
