@@ -2,18 +2,10 @@
 use Prim.Native.Nat.{◌≤◌}
 use native.Mathlib.Nat.{mul-le-mul}
 use native.Mathlib.Omega.{arith}
-use borrow.Author.Rules.{rules}
-use Rattle.areas.proofs.place.Statement.{statement}
-use Rattle.areas.proofs.place.Tie as tie
+use Rattle.areas.proofs.place.Goals as goal
 
-mul-result : tie.Need-overflow-mul-result
-mul-result c =
+pub overflow_mul-result : goal.overflow_mul-result
+overflow_mul-result c =
     let k : c.args.k ≤ 4294967295 = omega arith in
     let w : c.args.width ≤ 4294967295 = omega arith in
     omega (arith, mul-le-mul k w)
-
-returns : tie.Need-returns
-returns c = search rules
-
-pub place-spec : {M : Type 1} → statement M
-place-spec = tie.close (tie.spec mul-result returns)
