@@ -31,25 +31,25 @@ NAN = "7fc00000"      # the pattern that toBits writes
 USES = """\
 -- Traces that the original itself has run: the transcription computes the numbers that its driver printed. Assumes nothing.
 -- Written by compare/transcribe.py from compare/transcribed; `compare/transcribe.py --check` says whether it still would be.
-use mathlib.Core.Path.{_≡_, refl}
+use mathlib.Core.Path.{◌≡◌, refl}
 use Prim.Native.Nat.{ℕ}
 use mathlib.Core.Bool.{true, false}
-use mathlib.Core.List.{List, [], _∷_}
+use mathlib.Core.List.{List, [], ◌∷◌}
 use mathlib.Core.Option.{none, some}
 use lib.IntN.{pos, negsuc}
-use lib.Ieee.{toBits, ofInt, round, add, mul, div, neg, lt, le, eq}
-use Rattle·numbers.specs.Choice.{pick}
-use Rattle·numbers.specs.Sqrt.{sqrt}
-use Rattle·areas.specs.Area.{eqbℤ}
-use Rattle·stage.specs.declared.settings.Microcode.the-variants.{F3dex2, F3dex2NoN}
-use Rattle·sequence.specs.Sequence.{Command, matrix, force, pop, viewport, geometry, texture, fog, number, light, lookat, microcode, load, cull, depth, modify, draw}
-use Rattle·original·specs.specs.Math.{mul-row-vec4, mul-col-vec3, mul4}
-use Rattle·original·specs.specs.Memory.{read-matrix, read-vertex}
-use Rattle·original·specs.specs.Rsp.{eq-mat, last-is, key-is, switch-microcode, recompute-mvp, push-model, write-top, matrix-fn, force-matrix, popped-size, pop-matrix, prepare-vertex, set-viewport, set-num-lights, set-light, set-lookat}
-use Rattle·original·specs.specs.Drawing.{push, as-f32, texcoords-then, unit-length, fold-lights, lights-then, light-entries, texgen-of, looking-then, lookat-entries, position, clip-code, screen-of, slot-then, made-by, vertices, slots-then, columns-then, sharing-of, set-vertex, InvalidCullRange, InvalidConditionalVertex, InvalidVertexTransform, InvalidModifyVertex, Result, Ok, Err, made-at, unit-index, unit-then, modify-colour, modify-texture, modify-screen-at, copied-slots, change-at, modify-vertex, common, cull-display-list, branch-z, runs-then, draw-tri}
-use Rattle·original·specs.specs.Walk.{start, execute}
-use Rattle·original·specs.specs.Domain.{walk}
-use Rattle·original·proofs.proofs.Dump.{laid-out, slot-lines, Dump, dump, outcome}
+use lib.Ieee.{to_bits, of_int, round, add, mul, div, neg, lt, le, eq}
+use Rattle.numbers.specs.Choice.{pick}
+use Rattle.numbers.specs.Sqrt.{sqrt}
+use Rattle.areas.specs.Area.{eqbℤ}
+use Rattle.stage.specs.declared.settings.Microcode.TheVariants.{F3dex2, F3dex2NoN}
+use Rattle.sequence.specs.Sequence.{Command, matrix, force, pop, viewport, geometry, texture, fog, number, light, lookat, microcode, load, cull, depth, modify, draw}
+use Rattle.original.specs.Math.{mul_row_vec4, mul_col_vec3, mul4}
+use Rattle.original.specs.Memory.{read_matrix, read_vertex}
+use Rattle.original.specs.Rsp.{eq_mat, last_is, key_is, switch_microcode, recompute_mvp, push_model, write_top, matrix_fn, force_matrix, popped_size, pop_matrix, prepare_vertex, set_viewport, set_num_lights, set_light, set_lookat}
+use Rattle.original.specs.Drawing.{push, as_f32, texcoords_then, unit_length, fold_lights, lighting_then, lighting_entries, texgen_of, looking_then, lookat_entries, position, clip_code, screen_z_of, slot_then, made_by, vertices, slots_then, columns_then, sharing_of, set_vertex, InvalidCullRange, InvalidConditionalVertex, InvalidVertexTransform, InvalidModifyVertex, Result, Ok, Err, made_at, unit_index, unit_then, modify_colour, modify_texture, modify_screen_at, copied_slots, change_at, modify_vertex, common, cull_display_list, branch_z, runs_then, draw_tri}
+use Rattle.original.specs.Walk.{start, execute}
+use Rattle.original.specs.Domain.{walk}
+use Rattle.original.proofs.Dump.{laid_out, slot-lines, Dump, dump, outcome}
 """
 DEFINED = """
 -- what commands come to from the start
@@ -58,7 +58,7 @@ unfolding {unfolded}
 comes-to cs = outcome (walk cs start)
 """
 # What is unfolded: every name of these modules that the file brings and that is no constructor or type.
-UNFOLDED = re.compile(r"^use (?:lib\.Ieee|Rattle·numbers|Rattle·areas|Rattle·original)\S*\{([^}]*)\}", re.M)
+UNFOLDED = re.compile(r"^use (?:lib\.Ieee|Rattle\.numbers|Rattle\.areas|Rattle\.original)\.\S*\{([^}]*)\}", re.M)
 
 
 class Unfit(Exception):
@@ -168,8 +168,8 @@ def as_default(words):
     return words[1:] == ["0", "0", "0", "-", "-"]
 
 
-INTEGERS = ("modify-flags", "mtx-index", "viewport-index", "texcoord-index", "cn", "light-index", "light-count", "texgen-mode", "fog-index",
-            "lookat-index")
+INTEGERS = ("modify_flags", "mtx_index", "viewport_index", "texcoord_index", "cn", "light_index", "light_count", "texgen_mode", "fog_index",
+            "lookat_index")
 
 
 def fields(out):
@@ -192,9 +192,9 @@ def fields(out):
         "folded-lights": tables(out, "t4"),
         "folded-lookats": tables(out, "t5"),
         "fogs": nested(integers(entry) for entry in out.table("t6")),
-        "raw-pos": tables(out, "t7", 0, 3),
-        "raw-st": tables(out, "t7", 3, 5),
-        "modify-screen": tables(out, "t7", 5, 9),
+        "raw_pos": tables(out, "t7", 0, 3),
+        "raw_st": tables(out, "t7", 3, 5),
+        "modify_screen": tables(out, "t7", 5, 9),
         **{name: chain(row[9 + k] for row in out.table("t7")) for k, name in enumerate(INTEGERS)},
         "indices": chain(entry[0] for entry in out.table("t8")),
         "runs": nested(chain(entry) for entry in out.table("t9")),
