@@ -1,0 +1,13 @@
+-- `numbers::entry::matrix_entry` meets its contract. Assumes nothing.
+use Rattle.numbers.proofs.Parts.{entry-is, exact-is}
+use Rattle.numbers.proofs.entry.matrix_entry.Goals as goal
+
+pub returns : goal.returns
+returns c =
+    let g = c.args in
+    let h = c.ranges in
+    let a = c.whole_half-a in
+    let b = c.by_65536-b in
+    let value = entry-is g.whole g.fraction h.whole h.fraction a.result b.result a.ensures b.ensures in
+    let exact = exact-is g.whole g.fraction h.whole h.fraction a.result b.result a.ensures b.ensures in
+    λ i. record { value = value i; exact = exact i }
