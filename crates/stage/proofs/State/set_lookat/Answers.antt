@@ -1,0 +1,22 @@
+-- `stage::State::set_lookat` meets its contract. Assumes nothing.
+use mathlib.Core.Path.{◌∙◌}
+use Prim.Native.Nat.{◌+◌, ◌≤◌}
+use native.Mathlib.Omega.{arith}
+use lib.ListN.{length}
+use Rattle.stage.specs.Lights.{lookat_plan}
+use Rattle.stage.proofs.Cascade.{done-if-there, reached}
+use Rattle.stage.proofs.State.set_lookat.Goals as goal
+
+pub overflow_add-at : goal.overflow_add-at
+overflow_add-at c = omega (arith, (let there : let a = c.args in a.at + 11 ≤ length a.«data».now = reached c.sound-sound.result _ _ c.reaches-there.ensures c.if-sound-there.true in there))
+
+pub direction-requires : goal.direction-requires
+direction-requires c = omega (arith, (let there : let a = c.args in a.at + 11 ≤ length a.«data».now = reached c.sound-sound.result _ _ c.reaches-there.ensures c.if-sound-there.true in there))
+
+pub returns : goal.returns
+unfolding lookat_plan
+returns c =
+    let a = c.args in
+    done-if-there _ _ _ 11 a.at a.«data».now _ _ _ c.if-sound-there.branch c.sound-sound.ensures c.reaches-there.ensures c.told_of.ensures
+    (λ w. (w.0.taken, w.3 ∙ rw (w.2.ensures, w.1.ensures)))
+    (λ w. (w.0.left, w.1))
