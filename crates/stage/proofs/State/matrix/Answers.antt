@@ -11,16 +11,16 @@ use Rattle.stage.proofs.State.matrix.Goals as goal
 use Rattle.stage.proofs.State.matrix.Goals.{then-match-answer}
 
 pub matrix-m-requires : goal.matrix-m-requires
-matrix-m-requires c = leb-true _ _ ((let clear : let a = c.args in Clear a.self matrix_width a.self.counts.matrices 64 a.at a.«data».now a.matrices.now = early-clear _ 1 _ _ _ _ _ _ _ c.room_of-room.ensures _ c.early_in-answer.ensures c.in-Done.is in clear)).reach
+matrix-m-requires c = leb-true _ _ ((let clear : let a = c.args in Clear a.self matrix_width a.self.counts.matrices 64 a.at a.«data».now a.matrices.now = early-clear _ 1 _ _ _ _ _ _ _ c.room_of-room.ensures _ c.early_in-answer.ensures c.in-Done.in-Done-own.keys1 in clear)).reach
 
 pub inexact-inexact-requires : goal.inexact-inexact-requires
-inexact-inexact-requires c = leb-true _ _ ((let clear : let a = c.args in Clear a.self matrix_width a.self.counts.matrices 64 a.at a.«data».now a.matrices.now = early-clear _ 1 _ _ _ _ _ _ _ c.room_of-room.ensures _ c.early_in-answer.ensures c.in-Done.is in clear)).reach
+inexact-inexact-requires c = leb-true _ _ ((let clear : let a = c.args in Clear a.self matrix_width a.self.counts.matrices 64 a.at a.«data».now a.matrices.now = early-clear _ 1 _ _ _ _ _ _ _ c.room_of-room.ensures _ c.early_in-answer.ensures c.in-Done.in-Done-own.keys1 in clear)).reach
 
 pub take-t-requires : goal.take-t-requires
-take-t-requires c = let r = in-range ((let clear : let a = c.args in Clear a.self matrix_width a.self.counts.matrices 64 a.at a.«data».now a.matrices.now = early-clear _ 1 _ _ _ _ _ _ _ c.room_of-room.ensures _ c.early_in-answer.ensures c.in-Done.is in clear)) in (r.low, r.high)
+take-t-requires c = let r = in-range ((let clear : let a = c.args in Clear a.self matrix_width a.self.counts.matrices 64 a.at a.«data».now a.matrices.now = early-clear _ 1 _ _ _ _ _ _ _ c.room_of-room.ensures _ c.early_in-answer.ensures c.in-Done.in-Done-own.keys1 in clear)) in (r.low, r.high)
 
 pub count_after-used-requires : goal.count_after-used-requires
-count_after-used-requires c = (in-range ((let clear : let a = c.args in Clear a.self matrix_width a.self.counts.matrices 64 a.at a.«data».now a.matrices.now = early-clear _ 1 _ _ _ _ _ _ _ c.room_of-room.ensures _ c.early_in-answer.ensures c.in-Done.is in clear))).matrices
+count_after-used-requires c = (in-range ((let clear : let a = c.args in Clear a.self matrix_width a.self.counts.matrices 64 a.at a.«data».now a.matrices.now = early-clear _ 1 _ _ _ _ _ _ _ c.room_of-room.ensures _ c.early_in-answer.ensures c.in-Done.in-Done-own.keys1 in clear))).matrices
 
 -- CHECK ⊎_elim by hand
 pub shape_of-matrices : goal.shape_of-matrices

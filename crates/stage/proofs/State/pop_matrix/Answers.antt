@@ -55,7 +55,7 @@ returns-in_default-how c =
     ((let due-done : c.early_in-answer.result ≡ Done = elim c.match-answer.branch [
       | then-match-answer w ↦ w.ASK1.given.1
       | else-match-answer w ↦ absurd (false≢true (sym w.ASK1 ∙ c.if-due.true))
-    ] in due-done)) _ c.count_after-used.ensures c.in_default-how.keys2
+    ] in due-done)) _ c.count_after-used.ensures c.in_default-how.in_default-how-own.keys2
 
 -- CHECK whole at After-p
 pub returns-else-due : goal.returns-else-due

@@ -16,7 +16,7 @@ returns-in_default c =
     let r = c.rooms_of-rooms in
     rw (q, ← r.ensures)
     (inl (
-      record { refuses = refuses-early a.self a.first a.count a.len a.at r.result c.early-answer.result c.early-answer.ensures c.in_default.keys2; by = inl c.early-answer.ensures },
+      record { refuses = refuses-early a.self a.first a.count a.len a.at r.result c.early-answer.result c.early-answer.ensures c.in_default.in_default-own.keys2; by = inl c.early-answer.ensures },
       refl,
       refl,
       refl,
@@ -25,10 +25,10 @@ returns-in_default c =
     ))
 
 pub settled_by-d-requires : goal.settled_by-d-requires
-settled_by-d-requires c = let r = (let in-range : Ranges c.args.self = let a = c.args in sound-early a.self a.first a.count a.len a.at c.rooms_of-rooms.result ((let passed : let a = c.args in number (early_answer a.self a.first a.count a.len a.at c.rooms_of-rooms.result) ≡ 0 = let a = c.args in passes-early a.self a.first a.count a.len a.at c.rooms_of-rooms.result c.early-answer.result c.early-answer.ensures c.in-Done.is in passed)) in in-range) in (r.low, r.high, refl)
+settled_by-d-requires c = let r = (let in-range : Ranges c.args.self = let a = c.args in sound-early a.self a.first a.count a.len a.at c.rooms_of-rooms.result ((let passed : let a = c.args in number (early_answer a.self a.first a.count a.len a.at c.rooms_of-rooms.result) ≡ 0 = let a = c.args in passes-early a.self a.first a.count a.len a.at c.rooms_of-rooms.result c.early-answer.result c.early-answer.ensures c.in-Done.in-Done-own.keys1 in passed)) in in-range) in (r.low, r.high, refl)
 
 pub late-late-requires : goal.late-late-requires
-late-late-requires c = ((let in-range : Ranges c.args.self = let a = c.args in sound-early a.self a.first a.count a.len a.at c.rooms_of-rooms.result ((let passed : let a = c.args in number (early_answer a.self a.first a.count a.len a.at c.rooms_of-rooms.result) ≡ 0 = let a = c.args in passes-early a.self a.first a.count a.len a.at c.rooms_of-rooms.result c.early-answer.result c.early-answer.ensures c.in-Done.is in passed)) in in-range)).lights
+late-late-requires c = ((let in-range : Ranges c.args.self = let a = c.args in sound-early a.self a.first a.count a.len a.at c.rooms_of-rooms.result ((let passed : let a = c.args in number (early_answer a.self a.first a.count a.len a.at c.rooms_of-rooms.result) ≡ 0 = let a = c.args in passes-early a.self a.first a.count a.len a.at c.rooms_of-rooms.result c.early-answer.result c.early-answer.ensures c.in-Done.in-Done-own.keys1 in passed)) in in-range)).lights
 
 pub returns-in_default-late : goal.returns-in_default-late
 returns-in_default-late c =
@@ -37,7 +37,7 @@ returns-in_default-late c =
     let r = c.rooms_of-rooms in
     rw (q, ← r.ensures, ← c.settled_by-d.ensures)
     (inl (
-      record { refuses = refuses-late a.self c.settled_by-d.result a.count r.result c.late-late.result c.late-late.ensures c.in_default-late.keys2; by = inr ((let passed : let a = c.args in number (early_answer a.self a.first a.count a.len a.at c.rooms_of-rooms.result) ≡ 0 = let a = c.args in passes-early a.self a.first a.count a.len a.at c.rooms_of-rooms.result c.early-answer.result c.early-answer.ensures c.in-Done.is in passed), c.late-late.ensures) },
+      record { refuses = refuses-late a.self c.settled_by-d.result a.count r.result c.late-late.result c.late-late.ensures c.in_default-late.in_default-late-own.keys2; by = inr ((let passed : let a = c.args in number (early_answer a.self a.first a.count a.len a.at c.rooms_of-rooms.result) ≡ 0 = let a = c.args in passes-early a.self a.first a.count a.len a.at c.rooms_of-rooms.result c.early-answer.result c.early-answer.ensures c.in-Done.in-Done-own.keys1 in passed), c.late-late.ensures) },
       refl,
       refl,
       refl,
@@ -46,14 +46,14 @@ returns-in_default-late c =
     ))
 
 pub shared_by-shared-requires : goal.shared_by-shared-requires
-shared_by-shared-requires c = (let settled-range : Ranged c.args.self c.settled_by-d.result = ranged c.args.self c.settled_by-d.result _ _ _ _ refl c.settled_by-d.ensures ((let in-range : Ranges c.args.self = let a = c.args in sound-early a.self a.first a.count a.len a.at c.rooms_of-rooms.result ((let passed : let a = c.args in number (early_answer a.self a.first a.count a.len a.at c.rooms_of-rooms.result) ≡ 0 = let a = c.args in passes-early a.self a.first a.count a.len a.at c.rooms_of-rooms.result c.early-answer.result c.early-answer.ensures c.in-Done.is in passed)) in in-range)) in settled-range)
+shared_by-shared-requires c = (let settled-range : Ranged c.args.self c.settled_by-d.result = ranged c.args.self c.settled_by-d.result _ _ _ _ refl c.settled_by-d.ensures ((let in-range : Ranges c.args.self = let a = c.args in sound-early a.self a.first a.count a.len a.at c.rooms_of-rooms.result ((let passed : let a = c.args in number (early_answer a.self a.first a.count a.len a.at c.rooms_of-rooms.result) ≡ 0 = let a = c.args in passes-early a.self a.first a.count a.len a.at c.rooms_of-rooms.result c.early-answer.result c.early-answer.ensures c.in-Done.in-Done-own.keys1 in passed)) in in-range)) in settled-range)
 
 pub tables_written-counts-requires : goal.tables_written-counts-requires
 unfolding rooms_of
 tables_written-counts-requires c =
     let a = c.args in
     let r = c.rooms_of-rooms in
-    ((let settled-range : Ranged c.args.self c.settled_by-d.result = ranged c.args.self c.settled_by-d.result _ _ _ _ refl c.settled_by-d.ensures ((let in-range : Ranges c.args.self = let a = c.args in sound-early a.self a.first a.count a.len a.at c.rooms_of-rooms.result ((let passed : let a = c.args in number (early_answer a.self a.first a.count a.len a.at c.rooms_of-rooms.result) ≡ 0 = let a = c.args in passes-early a.self a.first a.count a.len a.at c.rooms_of-rooms.result c.early-answer.result c.early-answer.ensures c.in-Done.is in passed)) in in-range)) in settled-range), rows-count a.self c.settled_by-d.result a.count r.result c.late-late.result c.late-late.ensures ((let told : number c.late-late.result ≡ 0 = let a = c.args in passes-late a.self c.settled_by-d.result a.count c.rooms_of-rooms.result c.late-late.result c.late-late.ensures c.in-Told.is in told)) a.floats a.words (ap (λ (x : Rooms). x.rows) r.ensures))
+    ((let settled-range : Ranged c.args.self c.settled_by-d.result = ranged c.args.self c.settled_by-d.result _ _ _ _ refl c.settled_by-d.ensures ((let in-range : Ranges c.args.self = let a = c.args in sound-early a.self a.first a.count a.len a.at c.rooms_of-rooms.result ((let passed : let a = c.args in number (early_answer a.self a.first a.count a.len a.at c.rooms_of-rooms.result) ≡ 0 = let a = c.args in passes-early a.self a.first a.count a.len a.at c.rooms_of-rooms.result c.early-answer.result c.early-answer.ensures c.in-Done.in-Done-own.keys1 in passed)) in in-range)) in settled-range), rows-count a.self c.settled_by-d.result a.count r.result c.late-late.result c.late-late.ensures ((let told : number c.late-late.result ≡ 0 = let a = c.args in passes-late a.self c.settled_by-d.result a.count c.rooms_of-rooms.result c.late-late.result c.late-late.ensures c.in-Told.in-Told-own.keys1 in told)) a.floats a.words (ap (λ (x : Rooms). x.rows) r.ensures))
 
 pub shape_of-matrices : goal.shape_of-matrices
 shape_of-matrices c = c.tables_written-counts.auto.matrices
@@ -77,9 +77,9 @@ returns c =
     rw (← r.ensures, ← c.settled_by-d.ensures)
     (inr
     (record {
-      early = (let passed : let a = c.args in number (early_answer a.self a.first a.count a.len a.at c.rooms_of-rooms.result) ≡ 0 = let a = c.args in passes-early a.self a.first a.count a.len a.at c.rooms_of-rooms.result c.early-answer.result c.early-answer.ensures c.in-Done.is in passed);
+      early = (let passed : let a = c.args in number (early_answer a.self a.first a.count a.len a.at c.rooms_of-rooms.result) ≡ 0 = let a = c.args in passes-early a.self a.first a.count a.len a.at c.rooms_of-rooms.result c.early-answer.result c.early-answer.ensures c.in-Done.in-Done-own.keys1 in passed);
       late = sym c.late-1.given.1 ∙ c.late-late.ensures;
-      told = ap number (sym c.late-1.given.1) ∙ (let told : number c.late-late.result ≡ 0 = let a = c.args in passes-late a.self c.settled_by-d.result a.count c.rooms_of-rooms.result c.late-late.result c.late-late.ensures c.in-Told.is in told);
+      told = ap number (sym c.late-1.given.1) ∙ (let told : number c.late-late.result ≡ 0 = let a = c.args in passes-late a.self c.settled_by-d.result a.count c.rooms_of-rooms.result c.late-late.result c.late-late.ensures c.in-Told.in-Told-own.keys1 in told);
       shared = c.shared_by-shared.ensures;
       tables = c.tables_written-counts.ensures;
       combined = refl;
