@@ -1,5 +1,6 @@
+-- `stage::State::explained` meets its contract. Assumes nothing.
 use mathlib.Core.Path.{◌∙◌}
-use borrow.Author.Rules.{rules}
+use borrow.Enum.Refused.{opened}
 use Rattle.stage.proofs.Explaining.{reason-told, refusal-stands}
 use Rattle.stage.proofs.State.explained.Goals as goal
 
@@ -11,4 +12,4 @@ returns-in-Told c =
 pub returns : goal.returns
 returns c =
     let a = c.args in
-    refusal-stands a.self a.first a.last c.culled-test.result c.culled-test.ensures c.in_default.in_default-own.keys2
+    refusal-stands a.self a.first a.last c.culled-test.result c.culled-test.ensures (opened c.in_default.in_default-own.keys2)
