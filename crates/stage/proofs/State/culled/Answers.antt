@@ -1,13 +1,9 @@
-use mathlib.Core.Path.{◌≡◌, refl}
+use mathlib.Core.Path.{refl}
 use Rattle.std.proofs.Common.{not}
 use Rattle.std.proofs.Common.{ap}
-use Prim.Native.Nat.{◌+◌, ◌-◌, ◌<◌}
-use native.Mathlib.Omega.{arith}
-use borrow.Author.Rules.{rules}
 use borrow.Author.Tests.{not-true, not-false}
 use Rattle.stage.proofs.Cascade.{fails, holds, refused, passed}
 use Rattle.stage.proofs.Culling.{rest, few, walk_more, walk-stops, walk_ends}
-use Rattle.stage.specs.declared.State.{State}
 use Rattle.stage.specs.declared.Answer.TheVariants.{BadState, BadCull}
 use Rattle.stage.specs.Plan.{nothing}
 use Rattle.stage.specs.Draw.{cull_plan}

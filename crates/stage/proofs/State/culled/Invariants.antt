@@ -1,14 +1,7 @@
-use mathlib.Core.Path.{◌≡◌, refl}
+use mathlib.Core.Path.{◌≡◌}
 use Prim.Native.Nat.{◌+◌, ◌-◌, ◌<◌}
-use native.Mathlib.Omega.{arith}
-use borrow.Author.Rules.{rules}
-use borrow.Author.Tests.{not-true, not-false}
-use Rattle.stage.proofs.Cascade.{fails, holds, refused, passed}
-use Rattle.stage.proofs.Culling.{rest, few, walk_more, walk-stops, walk_ends}
+use Rattle.stage.proofs.Culling.{rest}
 use Rattle.stage.specs.declared.State.{State}
-use Rattle.stage.specs.declared.Answer.TheVariants.{BadState, BadCull}
-use Rattle.stage.specs.Plan.{nothing}
-use Rattle.stage.specs.Draw.{cull_plan}
 use Rattle.stage.proofs.State.culled.Given as goal
 
 abbrev pub invariant-loop-i : goal.invariant-loop-i

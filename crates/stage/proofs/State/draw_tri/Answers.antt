@@ -22,7 +22,6 @@ use Rattle.stage.specs.declared.draw.Corners.{Corners}
 use Rattle.stage.specs.Sound.{state_sound}
 use Rattle.stage.specs.Steps.{corners_at}
 use Rattle.stage.proofs.Verdicts.{judgement, verdict-is, has_room, run-written, draws, draws-nothing}
-use borrow.Author.Rules.{rules}
 use Rattle.stage.proofs.State.draw_tri.Goals as goal
 use Rattle.stage.proofs.State.draw_tri.Goals.{in-Record, in_default}
 

@@ -13,7 +13,6 @@ use Rattle.stage.specs.Sound.{state_sound}
 use Rattle.stage.specs.Steps.{six_lent, no_more, early_answer}
 use Rattle.stage.proofs.Judged.{and_left}
 use Rattle.stage.proofs.Cascade.{fails, holds}
-use borrow.Author.Rules.{rules}
 use Rattle.stage.proofs.State.early.Goals as goal
 
 pub returns-then-not-sound : goal.returns-then-not-sound

@@ -4,7 +4,6 @@ use borrow.Author.Tests.{leb-true}
 use Rattle.areas.specs.Widths.{matrix_width}
 use Rattle.stage.proofs.Early.{Clear, early-clear, in-range}
 use Rattle.stage.proofs.Ways.{force-refused, force-new, force-full}
-use borrow.Author.Rules.{rules}
 use Rattle.stage.proofs.State.force_matrix.Goals as goal
 
 pub matrix-requires : goal.matrix-requires

@@ -4,7 +4,6 @@ use Rattle.decide.specs.Steps.{first_short}
 use Rattle.stage.specs.declared.load.More.{More}
 use Rattle.stage.specs.Plan.{pick}
 use Rattle.stage.specs.Steps.{six_lent, more_by, late_answer}
-use borrow.Author.Rules.{rules}
 use Rattle.stage.proofs.State.late.Goals as goal
 
 pub returns-then-full-ne0 : goal.returns-then-full-ne0

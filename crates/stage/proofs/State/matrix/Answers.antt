@@ -1,13 +1,9 @@
 -- `stage::State::matrix` meets its contract: each way out by what was answered before it. Assumes nothing.
 use borrow.Enum.Refused.{opened}
-use mathlib.Core.Path.{◌∙◌, ap}
-use mathlib.Core.Logic.{⊎_elim}
-use lib.ListN.{length}
 use borrow.Author.Tests.{leb-true}
 use Rattle.areas.specs.Widths.{matrix_width}
 use Rattle.stage.proofs.Early.{Clear, early-clear, in-range}
 use Rattle.stage.proofs.Ways.{matrix-refused, matrix-new, matrix-full, came_from}
-use borrow.Author.Rules.{rules}
 use Rattle.stage.proofs.State.matrix.Goals as goal
 use Rattle.stage.proofs.State.matrix.Goals.{in-Done+in-Full, in-Done+in_default-how, in_default}
 

@@ -1,5 +1,4 @@
 use Rattle.stage.specs.Steps.{more_by}
-use borrow.Author.Rules.{rules}
 use Rattle.stage.proofs.State.more_by.Goals as goal
 
 pub returns : goal.returns

@@ -10,7 +10,6 @@ use Rattle.stage.specs.declared.Answer.TheVariants.{BadState, NotLoaded, NoCode}
 use Rattle.stage.specs.Plan.{nothing}
 use Rattle.stage.specs.Draw.{near, depth_plan}
 use Rattle.triangle.proofs.Slots.{held-read, held_reads}
-use borrow.Author.Rules.{rules}
 use Rattle.stage.proofs.State.near.Goals as goal
 
 pub returns-then-not-sound : goal.returns-then-not-sound

@@ -1,6 +1,5 @@
 -- `stage::State::opening` meets its contract: each way out by what was answered before it. Assumes nothing.
 use Rattle.stage.proofs.Opens.{opening-refused, opening-done}
-use borrow.Author.Rules.{rules}
 use Rattle.stage.proofs.State.opening.Goals as goal
 
 pub returns-then-short-gt0 : goal.returns-then-short-gt0

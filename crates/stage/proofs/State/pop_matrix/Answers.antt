@@ -2,7 +2,6 @@
 use borrow.Enum.Refused.{opened}
 use mathlib.Core.Path.{◌≡◌, ◌∙◌, sym}
 use mathlib.Core.Bool.{false, false≢true}
-use mathlib.Core.Logic.{⊎_elim}
 use mathlib.Core.List.{[]}
 use lib.Dec.{eqb}
 use borrow.Author.Tests.{not-true, not-false}
@@ -11,7 +10,6 @@ use Rattle.decide.proofs.Turning.{popped-in}
 use Rattle.stage.proofs.Early.{Clear, early-clear, in-range}
 use Rattle.stage.specs.declared.Answer.TheVariants.{Done}
 use Rattle.stage.proofs.Ways.{pop-refused, pop-none, pop-new, pop-full}
-use borrow.Author.Rules.{rules}
 use Rattle.stage.proofs.State.pop_matrix.Goals as goal
 use Rattle.stage.proofs.State.pop_matrix.Goals.{in-Done, in_default}
 

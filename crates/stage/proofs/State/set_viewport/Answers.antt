@@ -4,7 +4,6 @@ use borrow.Author.Tests.{leb-true}
 use Rattle.areas.specs.Widths.{viewport_width}
 use Rattle.stage.proofs.Early.{Clear, early-clear, in-range}
 use Rattle.stage.proofs.Ways.{viewport-refused, viewport-new, viewport-full}
-use borrow.Author.Rules.{rules}
 use Rattle.stage.proofs.State.set_viewport.Goals as goal
 
 pub viewport_at-entry-requires : goal.viewport_at-entry-requires

@@ -57,8 +57,7 @@ pub tables_written-counts-requires : goal.tables_written-counts-requires
 unfolding rooms_of
 tables_written-counts-requires c =
     let a = c.args in
-    let r = c.rooms_of-rooms in
-    (
+    let r = c.rooms_of-rooms in (
       ranged a.self c.settled_by-d.result _ _ _ _ refl c.settled_by-d.ensures (sound-early a.self a.first a.count a.len a.at r.result (ap number (sym c.in-Done.ensures))),
       rows-count a.self c.settled_by-d.result a.count r.result (Told c.in-Told.notice) c.in-Told.ensures refl a.floats a.words (ap (λ (x : Rooms). x.rows) r.ensures),
     )

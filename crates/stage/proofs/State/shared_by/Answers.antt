@@ -5,7 +5,6 @@ use Rattle.matrix.specs.Math.{at}
 use Prim.Native.Nat.{ℕ, ◌-◌}
 use mathlib.Core.Path.{◌∙◌, ap}
 use Rattle.stage.specs.Load.{shared_by}
-use borrow.Author.Rules.{rules}
 use Rattle.stage.proofs.State.shared_by.Goals as goal
 
 pub returns : goal.returns

@@ -3,7 +3,6 @@ use mir.Syntax.{w16}
 use mir.Facts.{to_z-of_z}
 use Rattle.stage.specs.Load.{load_edits}
 use Rattle.stage.proofs.Settling.{put_count, put-area}
-use borrow.Author.Rules.{rules}
 use Rattle.stage.proofs.State.tables_written.Goals as goal
 
 pub put_fog_if-n6-requires : goal.put_fog_if-n6-requires

@@ -1,5 +1,4 @@
 -- `stage::matrices::count_after` meets its contract. Assumes nothing.
-use borrow.Author.Rules.{rules}
 use Rattle.stage.proofs.matrices.count_after.Goals as goal
 
 pub returns-in-Grew : goal.returns-in-Grew

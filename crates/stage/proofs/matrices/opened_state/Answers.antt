@@ -2,7 +2,6 @@ use lib.Ieee.{of_bits}
 use Rattle.matrix.specs.Math.{laid}
 use Rattle.areas.specs.Area.{put}
 use Rattle.stage.specs.Opening.{blank, opened}
-use borrow.Author.Rules.{rules}
 use Rattle.stage.proofs.matrices.opened_state.Goals as goal
 
 pub returns : goal.returns

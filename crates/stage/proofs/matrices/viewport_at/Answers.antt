@@ -1,7 +1,6 @@
 -- `stage::matrices::viewport_at` meets its contract. Assumes nothing.
 use mathlib.Core.Path.{ap, ◌∙◌}
 use Rattle.stage.proofs.Ways.{six_of, six}
-use borrow.Author.Rules.{rules}
 use Rattle.stage.proofs.matrices.viewport_at.Goals as goal
 
 pub returns : goal.returns

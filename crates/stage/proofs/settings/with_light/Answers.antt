@@ -1,5 +1,4 @@
 use Rattle.stage.specs.Lights.{light_in}
-use borrow.Author.Rules.{rules}
 use Rattle.stage.proofs.settings.with_light.Goals as goal
 
 pub returns : goal.returns
