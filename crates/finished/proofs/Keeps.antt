@@ -1,7 +1,7 @@
 -- Every accepted command keeps the invariant. Assumes nothing.
 use mathlib.Core.Path.{◌≡◌, refl, sym, ap, ◌∙◌, subst}
 use mathlib.Core.Logic.{◌≢◌}
-use Prim.Native.Nat.{ℕ, ◌+◌, ◌-◌, ◌≤◌}
+use Prim.Native.Nat.{ℕ, ◌≤◌}
 use native.Mathlib.Omega.{arith}
 use mathlib.Core.Bool.{Bool, true, false, ◌||◌, false≢true}
 use mathlib.Core.List.{List, [], ◌∷◌, ◌++◌, map}
@@ -12,7 +12,7 @@ use Rattle.decide.specs.declared.family.Family.{Family}
 use Rattle.mode.specs.Word.{geometry_after}
 use Rattle.decide.specs.Stack.{popped, relit}
 use Rattle.layout.specs.Layout.{matrix_at}
-use Rattle.matrix.specs.Math.{rows, laid}
+use Rattle.matrix.specs.Math.{laid}
 use Rattle.triangle.specs.Run.{settings}
 use Rattle.triangle.specs.Slot.{held, corners, both, culls, swaps}
 use Rattle.vertex.specs.Vertices.{vertices_at}

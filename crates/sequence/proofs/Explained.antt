@@ -1,9 +1,9 @@
 -- The explainer beside the cull test, of what the two commands hand back: their contracts are cited by name, and not spelled. Assumes nothing.
-use mathlib.Core.Path.{◌≡◌, sym, subst}
+use mathlib.Core.Path.{sym, subst}
 use Rattle.stage.specs.declared.Answered.{Answered}
 use Rattle.stage.specs.Plan.{nothing, Outcome, outcome, carry}
 use Rattle.stage.specs.Sound.{limit}
-use Rattle.stage.specs.Draw.{cull_plan, explain_plan}
+use Rattle.stage.specs.Draw.{cull_plan}
 use Rattle.stage.specs.Explain.{Explains}
 use Rattle.stage.proofs.Explaining.{explains}
 use Rattle.stage.proofs.State.cull_display_list.Reads as cull

@@ -1,5 +1,4 @@
 -- A plan entered into a book, as `carry` enters it into state and areas. Definitions only.
-use Prim.Native.Nat.{◌+◌}
 use mathlib.Core.List.{List, [], ◌∷◌, ◌++◌}
 use lib.ListN.{set}
 use Rattle.stage.specs.declared.State.{State}

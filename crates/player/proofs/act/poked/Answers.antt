@@ -3,7 +3,6 @@ use Prim.Native.Nat.{zero-le}
 use Rattle.player.specs.Acts.{poked_state}
 use Rattle.trace.proofs.Lending.{past}
 use Rattle.player.proofs.Acting.{no_field}
-use borrow.Author.Rules.{rules}
 use Rattle.player.proofs.act.poked.Goals as goal
 
 pub returns-in-0 : goal.returns-in-0

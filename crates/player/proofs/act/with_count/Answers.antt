@@ -1,7 +1,6 @@
 -- `player::act::with_count` meets its contract. Assumes nothing.
 use mathlib.Core.Path.{ap}
 use Rattle.player.specs.Acts.{count_list, counts_of}
-use native.Mathlib.Omega.{arith}
 use Rattle.trace.proofs.Lending.{past}
 use Rattle.player.proofs.Acting.{no_table}
 use Rattle.player.proofs.act.with_count.Goals as goal

@@ -1,7 +1,5 @@
 -- `player::apply::apply` meets its contract. Assumes nothing.
-use mathlib.Core.Path.{refl}
 use Rattle.stage.specs.Load.{load_areas}
-use Rattle.sequence.specs.Sequence.{Areas}
 use Rattle.player.specs.Ops.{areas_of}
 use Rattle.player.proofs.Applied.{apply-load, apply-modify, apply-draw, apply-ink, apply-rest}
 use Rattle.player.proofs.apply.apply.Goals as goal

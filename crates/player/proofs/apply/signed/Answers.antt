@@ -1,7 +1,6 @@
 -- `player::apply::signed` meets its contract. Assumes nothing.
 use mir.Syntax.{w16}
 use Rattle.layout.proofs.Signed.{handed}
-use borrow.Author.Rules.{rules}
 use Rattle.player.proofs.apply.signed.Goals as goal
 
 pub returns : goal.returns

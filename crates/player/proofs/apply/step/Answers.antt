@@ -101,11 +101,10 @@ returns c =
     let a = c.args in
     let p = c.apply-r in
     let w = c.write in
-    let e = p.new.1.1.1 in
     let l = areas_of a.matrices.now a.viewports.now a.scales.now a.lights.now a.lookats.now a.fogs.now a.floats.now a.words.now a.indices.now a.runs.now in
-    let x = areas_of e.0 e.1.0 e.1.1.0 e.1.1.1.0 e.1.1.1.1.0 e.1.1.1.1.1.0 e.1.1.1.1.1.1.0 e.1.1.1.1.1.1.1.0 e.1.1.1.1.1.1.1.1.0 e.1.1.1.1.1.1.1.1.1.0 in
+    let x = areas_of p.new.matrices p.new.viewports p.new.scales p.new.lights p.new.lookats p.new.fogs p.new.floats p.new.words p.new.indices p.new.runs in
     let k : Lengths = record { matrices = c.within-n0.result; viewports = c.within-n1.result; scales = c.within-n2.result; lights = c.within-n3.result; lookats = c.within-n4.result; fogs = c.within-n5.result; floats = c.within-n6.result; words = c.within-n7.result; indices = c.within-n8.result; runs = c.within-n9.result } in
     let b = behind k l x in
-    step_is a.c a.«data».now a.state p.result a.lent l b (areas_of b.matrices b.viewports b.scales b.lights b.lookats w.new.1.0 b.floats w.new.1.1.0 w.new.1.1.1.0 w.new.1.1.1.1.0)
+    step_is a.c a.«data».now a.state p.result a.lent l b (areas_of b.matrices b.viewports b.scales b.lights b.lookats w.new.fogs b.floats w.new.words w.new.indices w.new.runs)
     (lend-is a.c a.«data».now a.state p.result a.lent k l x (λ i. record { matrices = c.within-n0.ensures.1 i; viewports = c.within-n1.ensures.1 i; scales = c.within-n2.ensures.1 i; lights = c.within-n3.ensures.1 i; lookats = c.within-n4.ensures.1 i; fogs = c.within-n5.ensures.1 i; floats = c.within-n6.ensures.1 i; words = c.within-n7.ensures.1 i; indices = c.within-n8.ensures.1 i; runs = c.within-n9.ensures.1 i }) p.ensures)
-    (λ i. record { matrices = b.matrices; viewports = b.viewports; scales = b.scales; lights = b.lights; lookats = b.lookats; fogs = w.ensures.0 i; floats = b.floats; words = w.ensures.1.0 i; drawing = record { indices = w.ensures.1.1.0 i; runs = w.ensures.1.1.1 i } })
+    (λ i. record { matrices = b.matrices; viewports = b.viewports; scales = b.scales; lights = b.lights; lookats = b.lookats; fogs = w.ensures.fogs_after i; floats = b.floats; words = w.ensures.words_after i; drawing = record { indices = w.ensures.indices_after i; runs = w.ensures.runs_after i } })

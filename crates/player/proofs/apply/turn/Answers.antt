@@ -1,5 +1,4 @@
 -- `player::apply::turn` meets its contract. Assumes nothing.
-use borrow.Author.Rules.{rules}
 use Rattle.player.proofs.Applied.{turn-open, turn-matrix, turn-force, turn-pop, turn-viewport, turn-rest}
 use Rattle.player.proofs.apply.turn.Goals as goal
 

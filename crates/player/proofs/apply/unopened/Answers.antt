@@ -3,7 +3,6 @@ use mathlib.Core.List.{List}
 use lib.Ieee.{Float}
 use Rattle.stage.specs.Plan.{Outcome, carry, unless}
 use Rattle.stage.specs.Opening.{opening_plan}
-use borrow.Author.Rules.{rules}
 use Rattle.player.proofs.apply.unopened.Goals as goal
 
 -- src/apply.rt:52:1
