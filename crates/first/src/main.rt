@@ -57,8 +57,7 @@ fn said(out: &impl Print, command: &[u8], a: Answer) -> io::Result<()> {
 
 // Says the answer, and hands the state on.
 fn heard(out: &impl Print, command: &[u8], r: Answered) -> io::Result<State> {
-    let a = r.answer;
-    said(out, command, a)?;
+    said(out, command, r.answer)?;
     Ok(r.state)
 }
 
