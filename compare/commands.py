@@ -14,12 +14,15 @@ import model
 import tracefile
 
 HERE = pathlib.Path(__file__).resolve().parent
-BUILT = HERE.parent / "target" / "bin" / "replay"
+PROGRAM = "crates/replay/out/replay"          # where rt leaves it
+BUILT = HERE.parent / PROGRAM
 SECONDS = 20
-TOOLS = ("bash", "sh", "cat", "dirname", "env", "head", "mktemp", "rm", "sed", "sleep", "tail", "tee", "uname", "yes", "python3")
-LOADER = '#!/bin/sh\nshift 2\nexec "$@"\n'
-KIT = '#!/bin/sh\nif [ "$1" = doc ]; then echo "{guide}"; exit; fi\necho "$*" >>"{calls}"\n{checks}\n'
-PROVED = 'echo "rt: numbers proved (3 s)"; echo "rt: areas proved (unchanged since it was last proved)"; echo "rt: ok"'
+TOOLS = ("bash", "sh", "cat", "cp", "dirname", "env", "head", "mktemp", "rm", "sed", "sleep", "tail", "tee", "uname", "yes", "python3")
+EMULATOR = '#!/bin/sh\nexec "$@"\n'
+KIT = '#!/bin/sh\necho "${{PWD##*/}}: $*" >>"{calls}"\n{checks}\n'
+# As rt run has it, on standard error: what it has proved anew, and what has not changed. What the program prints goes to standard output.
+PROVED = ('echo "rt: chose --jobs 2 for numbers" >&2; echo "crate numbers: modules loaded=4 checked=3" >&2; echo "logic=proved functions=24 sum=0" >&2; '
+          'echo "rt: areas: nothing has changed since the last proved build" >&2; echo end')
 WAITS = 'n=0; while [ ! -e "{go}" ] && [ $n -lt 400 ]; do sleep 0.05; n=$((n + 1)); done'
 HEADER = tracefile.write(cases.ROOMY, [])
 GOOD = tracefile.write(cases.ROOMY, cases.DRAWN + cases.explain((0, 2), (0, 3)))
@@ -42,7 +45,7 @@ class Workplace:
         for each in ("show.py", "sentences.py", "tracefile.py"):
             self.put(f"compare/{each}", texts.get(each, (HERE / each).read_text()))
         self.calls, self.go = self.root / "calls", self.root / "go"
-        self.put(f"kit/on/{os.uname().machine}/toolchain/lib/ld-linux-x86-64.so.2", LOADER)
+        self.put("bin/qemu-x86_64", EMULATOR)
         for folder, tools in (("tools", TOOLS), ("without-python", TOOLS[:-1])):
             self.link(folder, tools)
         self.kit(PROVED)
@@ -60,11 +63,11 @@ class Workplace:
         for tool in tools:
             (self.root / folder / tool).symlink_to(shutil.which(tool))
 
-    def kit(self, checks, guide=None):
-        self.put("bin/rt", KIT.format(guide=guide or self.root / "kit" / "docs" / "guide", calls=self.calls, checks=checks.format(go=self.go)))
+    def kit(self, checks):
+        self.put("bin/rt", KIT.format(calls=self.calls, checks=checks.format(go=self.go)))
 
     def program(self, body):
-        self.put("target/bin/replay", "#!/bin/sh\n" + body.format(go=self.go) + "\n")
+        self.put(PROGRAM, "#!/bin/sh\n" + body.format(go=self.go) + "\n")
 
     def env(self, *, kit="bin", tools="tools"):
         return {**os.environ, "PATH": f"{self.root / kit}:{self.root / tools}", "TMPDIR": str(self.root)}
@@ -115,7 +118,7 @@ def named_in(said, path):
 
 def of_progress(said):
     """What standard error has beside the lines of proving."""
-    return [each for each in said.split("\n") if each and " proved (" not in each and "proving and building" not in each]
+    return [each for each in said.split("\n") if each and not each.endswith(" proved") and "proving and building" not in each]
 
 
 def check_usage(checks, place):
@@ -144,8 +147,8 @@ def check_good(checks, place):
     good, other, want = place.put("good.trace", GOOD), place.put("a b.trace", HEADER), [model.answers(s).encode() for s in (GOOD, HEADER)]
     status, out, said = place.run(good, other, good)
     checks.expect((status, out) == (0, want[0] + want[1] + want[0]) and not of_progress(said), "three traces are replayed one after the other")
-    checks.expect("replay: numbers proved (3 s)\n" in said and "areas" not in said, "what is proved anew is told")
-    checks.expect(place.calls.read_text() == "check replay\n", "the program is built once")
+    checks.expect("replay: numbers proved\n" in said and "areas" not in said, "what is proved anew is told")
+    checks.expect(place.calls.read_text() == "replay: run\n", "the program is built once")
     checks.expect(not list(place.root.glob("tmp.*")), "something is left behind")
     odd = b"\n\n1\0\xff \n\n\n"
     place.put("odd", odd)
@@ -184,18 +187,25 @@ def check_failing(checks, place):
 def check_build(checks, place):
     good = place.put("good.trace", GOOD)
     status, out, said = place.run("--build")
-    checks.expect((status, out) == (0, b"") and "replay: numbers proved (3 s)\n" in said, "--build")
+    checks.expect((status, out) == (0, b"") and "replay: numbers proved\n" in said, "--build")
+    checks.expect("proving and building" not in said, "a later build is announced")
+    program = place.root / PROGRAM
+    other = program.rename(place.root / "built")
+    place.kit(f'{PROVED}; cp "{other}" "{program}"')
     status, out, said = place.run("--command")
-    checks.expect(status == 0 and out.decode().split("\n")[-2:] == [str(place.root / "target/bin/replay"), ""], "--command")
-    checks.expect("proving and building" in said, "a first build is announced")
-    place.put("target/stamp/replay", "")
-    checks.expect("proving and building" not in place.run("--build")[2], "a later build is not")
+    checks.expect(status == 0 and out.decode().split("\n")[-2:] == [str(program), ""], "--command")
+    checks.expect("proving and building" in said, "a first build is not announced")
     place.kit(f'{PROVED}; {WAITS}')
-    checks.expect(waited_for(place, "stderr", b"replay: numbers proved (3 s)\n", "--build"), "progress is held back")
-    place.kit("echo 'rt: stage NOT PROVED'; exit 1")
+    checks.expect(waited_for(place, "stderr", b"replay: numbers proved\n", "--build"), "progress is held back")
+    program.unlink()
+    place.kit(PROVED)
+    status, out, said = place.run("--command")
+    checks.expect((status, out) == (1, b"") and said.endswith("could not be proved and built\n"), "no program is there, and it is not told")
+    other.rename(program)
+    place.kit("echo 'logic=not-proved' >&2; exit 1")
     for args in ((good,), ("--build",), ("--command",), ("--words", good)):
         status, out, said = place.run(*args)
-        checks.expect((status, out) == (1, b"") and "rt: stage NOT PROVED\n" in said and said.endswith("could not be proved and built\n"), f"{args}: not proved")
+        checks.expect((status, out) == (1, b"") and "logic=not-proved\n" in said and said.endswith("could not be proved and built\n"), f"{args}: not proved")
         status, out, said = place.run(*args, kit="none")
         checks.expect((status, out) == (1, b"") and said.startswith("replay: there is no rt on the PATH") and said.count("\n") == 1, f"{args}: no kit: {said}")
 
@@ -267,11 +277,11 @@ def check_misfits(checks, place):
 
 
 def check_built(checks, place):
-    """The program that is built, under the kit that is there."""
-    if not (BUILT.exists() and shutil.which("rt")):
+    """The program that is built."""
+    if not BUILT.exists():
         return
-    place.kit("", guide=subprocess.run(["rt", "doc"], capture_output=True, text=True, check=True).stdout.strip())
-    shutil.copy(BUILT, place.root / "target" / "bin" / "replay")
+    place.kit("")
+    shutil.copy(BUILT, place.root / PROGRAM)
     check_broken(checks, place, "the program")
     status, out, said = place.run("--words", place.put("good.trace", GOOD))
     checks.expect(status == 0 and f"\n    {NOT_CULLED}\n".encode() in out and not of_progress(said), f"the program in words: {said}")

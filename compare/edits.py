@@ -305,6 +305,7 @@ IN_COMMANDS = (
     (REPLAY, '    need rt "', '    : "', "build", "a missing kit not told"),
     (REPLAY, '        tail -n 20 "$log" >&2\n', "", "build", "not told what was not proved"),
     (REPLAY, 'could not be proved and built" >&2\n        return 1', 'could not be proved and built" >&2', "build", "replayed though not proved"),
+    (REPLAY, ' || [ ! -x "$program" ]', "", "build", "built, though no program is there"),
     (REPLAY, '    run_on "$1" "${command[@]}"\n', '    local all\n    all=$("${command[@]}" <"$1")\n    printf \'%s\\n\' "$all"\n', "good", "the output captured"),
     (REPLAY, "trap 'rm -rf \"$room\"' EXIT\n", "", "good", "a folder left behind"),
     (REPLAY, '"$answer" "$file" || status=1', '"$answer" "$file" || exit 1', "broken", "files after a broken one not replayed"),

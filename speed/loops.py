@@ -22,7 +22,7 @@ HEAD = """// A loop over the stage to be timed. See speed/loops.py.
 
 ghost use Rattle.std.specs.Prelude.{◌+◌, ◌≤◌};
 
-use stage::{Answer, Answered, State};
+use stage::{Answer, Answered, Counts, State};
 use std::io;
 use std::io::Read;
 
@@ -92,6 +92,23 @@ fn batch(
 TAIL = """    g
 }
 
+fn report(
+    out: &impl Print,
+    c: Counts,
+    refused: u32,
+    floats: &[f32],
+    words: &[u32],
+    indices: &[u32],
+    runs: &[u32],
+) -> io::Result<()> {
+    let rows = c.rows as usize;
+    let h = sum_f32(floats, rows * 9);
+    let w = sum_words(words, rows * 10);
+    let i = sum_u32(indices, c.indices as usize);
+    let r = sum_u32(runs, (c.runs as usize) * 8);
+    println!(out; "{} {} {} {} {} {h} {w} {i} {r} {refused} ", c.matrices, c.lights, c.rows, c.indices, c.runs)
+}
+
 fn main(rt: HostRuntime) -> io::Result<()> {
     let mut matrices = [0.0f32; 65536];
     let mut viewports = [0.0f32; 48];
@@ -128,13 +145,7 @@ fn main(rt: HostRuntime) -> io::Result<()> {
             refused = refused.wrapping_add(1);
         }
     }
-    let c = g.state.counts;
-    let rows = c.rows as usize;
-    let h = sum_f32(&floats, rows * 9);
-    let w = sum_words(&words, rows * 10);
-    let i = sum_u32(&indices, c.indices as usize);
-    let r = sum_u32(&runs, (c.runs as usize) * 8);
-    println!(rt; "{} {} {} {} {} {h} {w} {i} {r} {refused} ", c.matrices, c.lights, c.rows, c.indices, c.runs)
+    report(&rt, g.state.counts, refused, &floats, &words, &indices, &runs)
 }
 """
 
