@@ -1,6 +1,6 @@
 -- Draw of the two sides. Assumes nothing.
 use mathlib.Core.Path.{◌≡◌, refl, sym, ap, ◌∙◌}
-use Prim.Native.Nat.{ℕ, zero, suc, ◌+◌, ◌-◌, ◌<◌}
+use Prim.Native.Nat.{ℕ, zero, suc, ◌-◌, ◌<◌}
 use native.Mathlib.Omega.{arith}
 use mathlib.Core.Bool.{Bool, true, false, not, ◌&&◌, cond, beq}
 use mathlib.Core.List.{List, [], ◌∷◌, ◌++◌, map}
@@ -30,7 +30,7 @@ use Rattle.original.specs.Relation.{SlotsSame, run_numbers, Near}
 use Rattle.original.specs.Domain.{Agrees}
 use Rattle.original.proofs.Alike.{culling}
 use Rattle.original.proofs.Nears.{held-near}
-use Rattle.original.proofs.Stacks.{get_d_map, map_snoc}
+use Rattle.original.proofs.Stacks.{get_or_map, map_snoc}
 
 -- ---- runs
 
@@ -113,7 +113,7 @@ runs_same same new (r ∷ rs) q n h e f = go (same z) refl
     long = ap (λ (m : ℕ). m - 1) (length-map (r ∷ rs) run_numbers)
 
     ends : final (map run_numbers (r ∷ rs)) ≡ run_numbers z
-    ends = ap (λ (m : ℕ). get_or (map run_numbers (r ∷ rs)) m []) long ∙ get_d_map run_numbers (r ∷ rs) (length (r ∷ rs) - 1) no_run [] (omega arith)
+    ends = ap (λ (m : ℕ). get_or (map run_numbers (r ∷ rs)) m []) long ∙ get_or_map run_numbers (r ∷ rs) (length (r ∷ rs) - 1) no_run [] (omega arith)
 
     go : (b : Bool) → same z ≡ b
         → edit (pick (matches eqb (take settings_wide (final (map run_numbers (r ∷ rs)))) q) (patch (length (map run_numbers (r ∷ rs)) - 1) (longer 0 (final (map run_numbers (r ∷ rs))))) (grow (run_of q n 3 ∷ []))) (map run_numbers (r ∷ rs))

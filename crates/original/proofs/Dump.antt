@@ -1,6 +1,6 @@
 -- The dump of docs/TRACE.md, taken of a world: what the driver around the Rust prints, as numbers. A NaN is the one pattern of `to_bits`.
 -- Rows and table 3 stand by columns. A slot that is as the original's `default` has it is left out. Definitions only.
-use Prim.Native.Nat.{ℕ, zero, suc, ◌+◌}
+use Prim.Native.Nat.{ℕ, suc}
 use mathlib.Core.Bool.{Bool, true, false, not, ◌&&◌, cond}
 use mathlib.Core.List.{List, [], ◌∷◌, ◌++◌, map}
 use mathlib.Core.Option.{Option, none, some}
@@ -9,8 +9,7 @@ use lib.Dec.{eqb}
 use lib.IntN.{ℤ}
 use lib.Ieee.{Float, binary32, binary64, to_bits}
 use Rattle.original.specs.Math.{Mat4}
-use Rattle.original.specs.Rsp.{Slots, Rsp}
-use Rattle.original.specs.Drawing.{Columns, DrawRun, Scene, Result, Ok, Err, is_non}
+use Rattle.original.specs.Drawing.{DrawRun, Result, Ok, Err, is_non}
 use Rattle.original.specs.Walk.{World}
 use Rattle.original.specs.Domain.{Walked}
 

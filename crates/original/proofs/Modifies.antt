@@ -95,8 +95,8 @@ changed-by c slot gi w =
 -- ---- the four kinds
 
 -- an element after one is set
-get_d_set : {A : Type 0} (l : List A) (i j : ℕ) (a d : A) → get_or (set l i a) j d ≡ cond (eqb i j && ltb i (length l)) a (get_or l j d)
-get_d_set {A} l i j a d = go (eqb i j) refl
+get_or_set : {A : Type 0} (l : List A) (i j : ℕ) (a d : A) → get_or (set l i a) j d ≡ cond (eqb i j && ltb i (length l)) a (get_or l j d)
+get_or_set {A} l i j a d = go (eqb i j) refl
   where
     inside : (b : Bool) → ltb i (length l) ≡ b → get_or (set l i a) i d ≡ cond b a (get_or l i d)
     inside true e = get_or-set_same l i a d (ltb-true i (length l) e)
@@ -122,13 +122,13 @@ record Kind (c : Change) : Type 0 where
 kind : (c : Change) → Kind c
 unfolding made_of floats_after words_after depth_after appends pick
 kind (Colour w) =
-    record { row = λ o u r h. simp (get_d_set, length-set, h.words); since = λ o u r p h. whole (Colour w) o u r h (simp get_d_set h.viewport) (simp get_d_set h.scale); depth = λ _ _. refl; new = λ _. refl; idle = λ _ _ _ _. refl }
+    record { row = λ o u r h. simp (get_or_set, length-set, h.words); since = λ o u r p h. whole (Colour w) o u r h (simp get_or_set h.viewport) (simp get_or_set h.scale); depth = λ _ _. refl; new = λ _. refl; idle = λ _ _ _ _. refl }
 kind (Texture x y) =
-    record { row = λ o u r h. simp (get_d_set, length-set, h.floats, h.words); since = λ o u r p h. whole (Texture x y) o u r h (simp get_d_set h.viewport) (simp (get_d_set, h.words) (p refl)); depth = λ _ _. refl; new = λ _. refl; idle = λ u v e m. ap (λ (n : ℕ). altered (Texture x y) n m) (e refl) }
+    record { row = λ o u r h. simp (get_or_set, length-set, h.floats, h.words); since = λ o u r p h. whole (Texture x y) o u r h (simp get_or_set h.viewport) (simp (get_or_set, h.words) (p refl)); depth = λ _ _. refl; new = λ _. refl; idle = λ u v e m. ap (λ (n : ℕ). altered (Texture x y) n m) (e refl) }
 kind (Screen x y) =
-    record { row = λ o u r h. simp (get_d_set, length-set, h.floats, h.words); since = λ o u r p h. whole (Screen x y) o u r h (simp get_d_set h.viewport) (simp get_d_set h.scale); depth = λ _ _. refl; new = λ _. refl; idle = λ _ _ _ _. refl }
+    record { row = λ o u r h. simp (get_or_set, length-set, h.floats, h.words); since = λ o u r p h. whole (Screen x y) o u r h (simp get_or_set h.viewport) (simp get_or_set h.scale); depth = λ _ _. refl; new = λ _. refl; idle = λ _ _ _ _. refl }
 kind (Depth z own) =
-    record { row = λ o u r h. simp (get_d_set, h.floats, h.words); since = λ o u r p h. whole (Depth z own) o u r h (simp get_d_set h.viewport) (simp get_d_set h.scale); depth = λ deep old. sym (chosen deep own old); new = λ _. refl; idle = λ _ _ _ _. refl }
+    record { row = λ o u r h. simp (get_or_set, h.floats, h.words); since = λ o u r p h. whole (Depth z own) o u r h (simp get_or_set h.viewport) (simp get_or_set h.scale); depth = λ deep old. sym (chosen deep own old); new = λ _. refl; idle = λ _ _ _ _. refl }
 
 -- ---- what is asked for
 

@@ -8,7 +8,7 @@ use Rattle.stage.specs.Plan.{Row}
 use Rattle.finished.specs.Shown.{no_row}
 use Rattle.original.specs.Drawing.{Columns, Made, push, made_at}
 use Rattle.original.specs.Relation.{Offsets, made_of, Since, RowsSame}
-use Rattle.original.proofs.Stacks.{get_d_map, map_snoc}
+use Rattle.original.proofs.Stacks.{get_or_map, map_snoc}
 use Rattle.original.proofs.Draws.{map-set}
 
 -- an element replaced in every list
@@ -60,7 +60,7 @@ module _ {o : Offsets} {rs : List Row} {c : Columns} (S : RowsSame o rs c) where
   row_read n h = rw S.columns (simp read)
     where
       read : {A : Type 0} (g : Row → A) (e : A) → get_or (map g rs) n e ≡ g (get_or rs n no_row)
-      read g e = get_d_map g rs n no_row e h
+      read g e = get_or_map g rs n no_row e h
 
   -- as many
   pub rows-count : length c.raw_pos ≡ length rs

@@ -13,8 +13,7 @@ use borrow.Author.Tests.{eq-eqb}
 use Rattle.areas.specs.Area.{matches, Wide}
 use Rattle.areas.specs.Widths.{matrix_width, fog_width}
 use Rattle.areas.proofs.Tables.{wide-append}
-use Rattle.matrix.specs.Math as math
-use Rattle.matrix.specs.Math.{at, col_times, times, rows, laid}
+use Rattle.matrix.specs.Math.{col_times, times, rows, laid}
 use Rattle.decide.specs.Append.{final}
 use Rattle.fold.specs.Decision.{refold}
 use Rattle.fold.specs.Direction.{three, folded}

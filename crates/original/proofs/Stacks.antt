@@ -69,10 +69,10 @@ rows-beside l v k i h = rows-by (put l (matrix_width * k) v) l (matrix_width * i
 
 -- ---- the last entry of table 1
 
-pub get_d_map : {A B : Type 0} (g : A → B) (l : List A) (i : ℕ) (d : A) (e : B) → i < length l → get_or (map g l) i e ≡ g (get_or l i d)
-get_d_map g [] i d e h = absurd (omega arith)
-get_d_map g (x ∷ l) zero d e h = refl
-get_d_map g (x ∷ l) (suc i) d e h = get_d_map g l i d e (omega arith)
+pub get_or_map : {A B : Type 0} (g : A → B) (l : List A) (i : ℕ) (d : A) (e : B) → i < length l → get_or (map g l) i e ≡ g (get_or l i d)
+get_or_map g [] i d e h = absurd (omega arith)
+get_or_map g (x ∷ l) zero d e h = refl
+get_or_map g (x ∷ l) (suc i) d e h = get_or_map g l i d e (omega arith)
 
 pub map_snoc : {A B : Type 0} (g : A → B) (l : List A) (x : A) → map g (l ++ x ∷ []) ≡ map g l ++ g x ∷ []
 map_snoc g [] x = refl
@@ -83,7 +83,7 @@ table-last : (t : List Mat4) (m : Mat4) → 0 < length t → last_is eq_mat t m 
 table-last t m h =
     last-final eq_mat t m [] h
     ∙ mat-same (get_or t (length t - 1) []) m
-    ∙ ap (λ (x : List Float). matches eq x (laid m)) (sym (ap (λ (n : ℕ). get_or (map laid t) (n - 1) []) (length-map t laid) ∙ get_d_map laid t (length t - 1) [] [] (omega arith)))
+    ∙ ap (λ (x : List Float). matches eq x (laid m)) (sym (ap (λ (n : ℕ). get_or (map laid t) (n - 1) []) (length-map t laid) ∙ get_or_map laid t (length t - 1) [] [] (omega arith)))
 
 -- ---- a combined matrix
 

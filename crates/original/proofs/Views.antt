@@ -25,7 +25,7 @@ use Rattle.original.specs.Domain.{Data, Agrees}
 use Rattle.original.proofs.Alike.{entry-same, last-final}
 use Rattle.original.proofs.Nears.{space-near}
 use Rattle.original.proofs.Readers.{triple-same}
-use Rattle.original.proofs.Stacks.{get_d_map, map_snoc}
+use Rattle.original.proofs.Stacks.{get_or_map, map_snoc}
 
 -- ---- shared tables
 
@@ -138,7 +138,7 @@ module _ {a b : ℕ} {v : List Float} {t : List (List Float)} {x : Viewports} (S
       last-final eq_entry x.viewport_table (scale, trans) ([], []) some_entry
       ∙ entry-same e.0 e.1 scale trans h.0 h.1 refl refl
       ∙ ap₂ (matches eq)
-      (sym (ends_same S.table ∙ ap (λ (m : ℕ). get_or (map joined x.viewport_table) (m - 1) []) (length-map x.viewport_table joined) ∙ get_d_map joined x.viewport_table (length x.viewport_table - 1) ([], []) [] (omega (arith, some_entry))))
+      (sym (ends_same S.table ∙ ap (λ (m : ℕ). get_or (map joined x.viewport_table) (m - 1) []) (length-map x.viewport_table joined) ∙ get_or_map joined x.viewport_table (length x.viewport_table - 1) ([], []) [] (omega (arith, some_entry))))
       (sym entry)
 
   view-kept : matches eq (final t) (viewport_entry bytes at) ≡ true → ViewSame a b (viewport_entry bytes at) t (set_viewport bytes at x)

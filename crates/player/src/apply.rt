@@ -4,7 +4,7 @@ ghost use Rattle.stage.specs.Opening.{blank};
 ghost use Rattle.stage.specs.Plan.{outcome, carry, nothing};
 ghost use Rattle.stage.specs.Lights.{texture_plan, microcode_plan};
 ghost use Rattle.player.specs.Ops.{microcode_of, SetAre, TurnAre, acted, act_of, areas_of, step_by};
-ghost use Rattle.numbers.specs.Ratio.{signed as Ratio·signed};
+ghost use Rattle.numbers.specs.Ratio.{signed};
 
 use crate::act;
 use stage::settings::Microcode;
@@ -22,7 +22,7 @@ fn within(n: usize, most: usize) -> usize
 
 // The low 16 bits, with their sign.
 fn signed(x: u32) -> i16
-    ensures { result ≡ Ratio·signed 16 (x % 65536) }
+    ensures { result ≡ signed 16 (x % 65536) }
 {
     numbers::signed::signed_half(script::half(x))
 }

@@ -1,6 +1,6 @@
 // The ops of the format by their numbers, and what follows each.
 ghost use Rattle.std.specs.Prelude.{◌≡◌};
-ghost use Rattle.trace.specs.Shapes.{taking as Ops·taking, shape_of};
+ghost use Rattle.trace.specs.Shapes.{taking, shape_of};
 
 pub const OPEN: u8 = 0x01;
 
@@ -57,7 +57,7 @@ pub struct Shape {
 }
 
 fn taking(arguments: u8, bytes: bool) -> Shape
-    ensures { result ≡ Ops·taking arguments bytes }
+    ensures { result ≡ taking arguments bytes }
 {
     Shape {
         known: true,
