@@ -22,7 +22,7 @@ use Rattle.change.specs.declared.judge.Moved.{Moved}
 use Rattle.change.specs.declared.judge.Refusal.{Refusal}
 use Rattle.change.specs.declared.judge.Verdict.{Verdict}
 use Rattle.change.specs.declared.judge.Verdict.TheVariants.{No, Go}
-use Rattle.change.specs.Steps.{row_room, comes_to, roomy, change_judged, RoomsOf, remade}
+use Rattle.change.specs.Steps.{row_room, comes_to, roomy, change_judged, remade}
 
 -- the verdict lets the change through
 abbrev pub goes : Verdict → Bool

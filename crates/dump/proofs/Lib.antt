@@ -1,2 +1,1 @@
 pub mod Rolling
-pub mod Patterns

@@ -1,4 +1,4 @@
-// Writes text to standard output, and complaints to standard error.
+// Writes text to `out`, which is standard output, and complaints to `err`, standard error.
 ghost use Rattle.std.specs.Prelude.{◌≡◌, false, [], ◌∷◌, ◌<◌, take};
 ghost use Rattle.std.specs.Float.{binary32, binary64};
 ghost use Rattle.std.specs.Float.Ieee.{to_bits, ne};
@@ -6,48 +6,48 @@ ghost use Rattle.std.proofs.Common.{of_z};
 ghost use Rattle.std.specs.Int.{w16};
 ghost use Rattle.stage.specs.Answers.{number, values};
 
-use libc::{STDERR_FILENO, STDOUT_FILENO};
 use stage::{Answer, Counts};
+use std::io;
 use trace::ops;
 
-pub fn text(s: &[u8]) {
-    io::write_all(STDOUT_FILENO, s);
+pub fn text(out: &impl Print, s: &[u8]) -> io::Result<()> {
+    out.write_all(s)
 }
 
-pub(crate) fn end() {
-    text(b"\n");
+pub(crate) fn end(out: &impl Print) -> io::Result<()> {
+    text(out, b"\n")
 }
 
-pub(crate) fn decimal(n: u32) {
-    io::print_decimal(STDOUT_FILENO, n as u64);
+pub(crate) fn decimal(out: &impl Print, n: u32) -> io::Result<()> {
+    out.print(n)
 }
 
 // A number as a value in a line, after a space.
-pub(crate) fn word(n: u32) {
-    text(b" ");
-    decimal(n);
+pub(crate) fn word(out: &impl Print, n: u32) -> io::Result<()> {
+    text(out, b" ")?;
+    decimal(out, n)
 }
 
 // The same for narrower numbers.
-pub(crate) fn octet(n: u8) {
-    word(n as u32);
+pub(crate) fn octet(out: &impl Print, n: u8) -> io::Result<()> {
+    word(out, n as u32)
 }
 
-pub(crate) fn half(n: u16) {
-    word(n as u32);
+pub(crate) fn half(out: &impl Print, n: u16) -> io::Result<()> {
+    word(out, n as u32)
 }
 
 // The start of the line of entry k.
-pub(crate) fn entry(name: &[u8], k: u32) {
-    text(name);
-    word(k);
+pub(crate) fn entry(out: &impl Print, name: &[u8], k: u32) -> io::Result<()> {
+    text(out, name)?;
+    word(out, k)
 }
 
-pub(crate) fn truth(b: bool) {
+pub(crate) fn truth(out: &impl Print, b: bool) -> io::Result<()> {
     if b {
-        text(b" 1");
+        text(out, b" 1")
     } else {
-        text(b" 0");
+        text(out, b" 0")
     }
 }
 
@@ -70,21 +70,21 @@ fn wide_bits(x: f64) -> u64
 }
 
 // So many digits of a float's bits, or `nan`.
-fn hex(nan: bool, bits: u64, digits: usize) {
+fn hex(out: &impl Print, nan: bool, bits: u64, digits: usize) -> io::Result<()> {
     if nan {
-        text(b" nan");
+        text(out, b" nan")
     } else {
-        text(b" ");
-        io::print_hex(STDOUT_FILENO, bits, digits);
+        text(out, b" ")?;
+        print!(out; "{bits:0digits$x}")
     }
 }
 
-pub(crate) fn single(x: f32) {
-    hex(x != x, bits(x) as u64, 8);
+pub(crate) fn single(out: &impl Print, x: f32) -> io::Result<()> {
+    hex(out, x != x, bits(x) as u64, 8)
 }
 
-pub(crate) fn double(x: f64) {
-    hex(x != x, wide_bits(x), 16);
+pub(crate) fn double(out: &impl Print, x: f64) -> io::Result<()> {
+    hex(out, x != x, wide_bits(x), 16)
 }
 
 // The 16 bits of a number with a sign.
@@ -98,13 +98,13 @@ pub(crate) fn pattern(x: i16) -> u32
     }
 }
 
-pub(crate) fn signed(x: i16) {
+pub(crate) fn signed(out: &impl Print, x: i16) -> io::Result<()> {
     let h = pattern(x);
     if h < 32768 {
-        word(h);
+        word(out, h)
     } else {
-        text(b" -");
-        decimal(65536 - h);
+        text(out, b" -")?;
+        decimal(out, 65536 - h)
     }
 }
 
@@ -194,13 +194,14 @@ fn values_of(a: Answer) -> Values
     }
 }
 
-fn print_values(v: Values) {
+fn print_values(out: &impl Print, v: Values) -> io::Result<()> {
     let list = v.list;
     for k in 0..5 {
         if (k as u8) < v.count {
-            word(list[k]);
+            word(out, list[k])?;
         }
     }
+    Ok(())
 }
 
 // The place of the next space, or the end.
@@ -216,80 +217,87 @@ fn space(names: &[u8], at: usize) -> usize {
 }
 
 // The name that has n others before it, each after a space and filled up to nine bytes.
-fn name(names: &[u8], n: u8) {
+fn name(out: &impl Print, names: &[u8], n: u8) -> io::Result<()> {
     let from = (n as usize) * 9;
     let to = space(names, from + 1);
     if to < from {
-        return;
+        return Ok(());
     }
     if to <= names.len() {
-        text(&names[from..to]);
+        text(out, &names[from..to])?;
     }
+    Ok(())
 }
 
 // The name of an op: a command, of which there is no number 0 and no 0x13, or an act of the driver.
-fn command(op: u8) {
+fn command(out: &impl Print, op: u8) -> io::Result<()> {
     if op < ops::LEND {
         name(
+            out,
             b" none     open     matrix   force    pop      geom     viewport texture  fog      lightnum light    lookat   load     cull     depth    modify   draw     ucode    ink      none     explain",
             op,
-        );
+        )
     } else {
-        name(b" lend     mark     poke     write", op - ops::LEND);
+        name(out, b" lend     mark     poke     write", op - ops::LEND)
     }
 }
 
-pub(crate) fn counts(c: Counts) {
-    word(c.matrices);
-    word(c.viewports);
-    word(c.scales);
-    word(c.lights);
-    word(c.lookats);
-    word(c.fogs);
-    word(c.rows);
-    word(c.indices);
-    word(c.runs);
+pub(crate) fn counts(out: &impl Print, c: Counts) -> io::Result<()> {
+    word(out, c.matrices)?;
+    word(out, c.viewports)?;
+    word(out, c.scales)?;
+    word(out, c.lights)?;
+    word(out, c.lookats)?;
+    word(out, c.fogs)?;
+    word(out, c.rows)?;
+    word(out, c.indices)?;
+    word(out, c.runs)
 }
 
 // The line of op number i; `mark` shows the counts.
-pub fn answered(i: usize, op: u8, a: Answer, c: Counts) {
-    io::print_decimal(STDOUT_FILENO, i as u64);
-    command(op);
-    word(number_of(a));
-    print_values(values_of(a));
+pub fn answered(out: &impl Print, i: usize, op: u8, a: Answer, c: Counts) -> io::Result<()> {
+    out.print(i)?;
+    command(out, op)?;
+    word(out, number_of(a))?;
+    print_values(out, values_of(a))?;
     if op == ops::MARK {
-        counts(c);
+        counts(out, c)?;
     }
-    end();
+    end(out)
 }
 
 // A sentence on standard error: why a trace is not replayed, or not to its end.
-pub fn complain(s: &[u8]) {
-    io::write_all(STDERR_FILENO, b"replay: ");
-    io::write_all(STDERR_FILENO, s);
+pub fn complain(err: &impl Print, s: &[u8]) -> io::Result<()> {
+    err.write_all(b"replay: ")?;
+    err.write_all(s)
 }
 
 // The end of such a sentence: a number, and what comes behind it.
-fn number_then(n: usize, s: &[u8]) {
-    io::print_decimal(STDERR_FILENO, n as u64);
-    io::write_all(STDERR_FILENO, s);
+fn number_then(err: &impl Print, n: usize, s: &[u8]) -> io::Result<()> {
+    err.print(n)?;
+    err.write_all(s)
 }
 
-pub fn too_long(most: usize) {
-    complain(b"the trace is longer than ");
-    number_then(most, b" bytes\n");
+pub fn too_long(err: &impl Print, most: usize) -> io::Result<()> {
+    complain(err, b"the trace is longer than ")?;
+    number_then(err, most, b" bytes\n")
 }
 
 // The script stops at op number i, at the byte `at`, which is an op that is cut short, or none.
-pub fn stopped(i: usize, at: usize, known: bool) {
-    complain(b"op ");
-    number_then(i, b", at byte ");
+pub fn stopped(err: &impl Print, i: usize, at: usize, known: bool) -> io::Result<()> {
+    complain(err, b"op ")?;
+    number_then(err, i, b", at byte ")?;
     if known {
         number_then(
+            err,
             at,
             b", is cut short; it and what follows was not replayed\n",
-        );
+        )
     } else {
-        number_then(at, b", is unknown; it and what follows was not replayed\n");
+        number_then(
+            err,
+            at,
+            b", is unknown; it and what follows was not replayed\n",
+        )
     }
 }

@@ -1,6 +1,7 @@
 // The slots that differ from the opening's, a line each.
 use crate::show;
 use stage::State;
+use std::io;
 
 #[derive(Clone, Copy)]
 struct Slot {
@@ -15,37 +16,37 @@ struct Slot {
 }
 
 // A number, or `-` for none.
-fn number(on: bool, n: u32) {
+fn number(out: &impl Print, on: bool, n: u32) -> io::Result<()> {
     if on {
-        show::word(n);
+        show::word(out, n)
     } else {
-        show::text(b" -");
+        show::text(out, b" -")
     }
 }
 
 // The same for a screen z.
-fn screen_z(on: bool, z: f64) {
+fn screen_z(out: &impl Print, on: bool, z: f64) -> io::Result<()> {
     if on {
-        show::double(z);
+        show::double(out, z)
     } else {
-        show::text(b" -");
+        show::text(out, b" -")
     }
 }
 
-fn line(k: u32, s: Slot) {
+fn line(out: &impl Print, k: u32, s: Slot) -> io::Result<()> {
     if !(s.ever | s.loaded | s.drawn | s.coded | s.deep) {
-        return;
+        return Ok(());
     }
-    show::entry(b"slot", k);
-    number(s.ever, s.row);
-    show::truth(s.loaded);
-    show::truth(s.drawn);
-    number(s.coded, s.code as u32);
-    screen_z(s.deep, s.z);
-    show::end();
+    show::entry(out, b"slot", k)?;
+    number(out, s.ever, s.row)?;
+    show::truth(out, s.loaded)?;
+    show::truth(out, s.drawn)?;
+    number(out, s.coded, s.code as u32)?;
+    screen_z(out, s.deep, s.z)?;
+    show::end(out)
 }
 
-fn each(s: State) {
+fn each(out: &impl Print, s: State) -> io::Result<()> {
     let mut k: usize = 0;
     while k < 256 {
         let slot = Slot {
@@ -58,13 +59,15 @@ fn each(s: State) {
             deep: s.deep[k],
             z: s.z[k],
         };
-        line(k as u32, slot);
+        line(out, k as u32, slot)?;
         k = k + 1;
     }
+    Ok(())
 }
 
-pub(crate) fn lines(s: State) {
+pub(crate) fn lines(out: &impl Print, s: State) -> io::Result<()> {
     if s.opened {
-        each(s);
+        each(out, s)?;
     }
+    Ok(())
 }

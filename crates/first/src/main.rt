@@ -2,8 +2,8 @@
 // the answer and hands the state back. A refusal hands it back as it was.
 #![tactic(auto)]
 
-use libc::STDOUT_FILENO;
 use stage::{Answer, Answered, State};
+use std::io;
 
 // Matrix flags, bits of the geometry mode, and an attribute of modify, by this program's own names.
 const LOAD: u8 = 2;
@@ -14,76 +14,86 @@ const CULL_BACK: u32 = 0x400;
 
 const COLOUR: u32 = 0x10;
 
-fn line(what: &[u8]) {
-    io::write_all(STDOUT_FILENO, what);
-    io::write_all(STDOUT_FILENO, b"\n");
+fn line(out: &impl Print, what: &[u8]) -> io::Result<()> {
+    out.write_all(what)?;
+    out.write_all(b"\n")
 }
 
-fn one(what: &[u8], n: u32) {
-    io::write_all(STDOUT_FILENO, what);
-    io::print_decimal(STDOUT_FILENO, n as u64);
-    io::write_all(STDOUT_FILENO, b"\n");
+fn one(out: &impl Print, what: &[u8], n: u32) -> io::Result<()> {
+    out.write_all(what)?;
+    println!(out; "{n}")
 }
 
-fn two(what: &[u8], n: u32, m: u32) {
-    io::write_all(STDOUT_FILENO, what);
-    io::print_decimal(STDOUT_FILENO, n as u64);
-    one(b" ", m);
+fn two(out: &impl Print, what: &[u8], n: u32, m: u32) -> io::Result<()> {
+    out.write_all(what)?;
+    println!(out; "{n} {m}")
 }
 
-fn four(what: &[u8], n: u32, m: u32, k: u32, j: u32) {
-    io::write_all(STDOUT_FILENO, what);
-    io::print_decimal(STDOUT_FILENO, n as u64);
-    io::write_all(STDOUT_FILENO, b" ");
-    io::print_decimal(STDOUT_FILENO, m as u64);
-    two(b" ", k, j);
+fn four(out: &impl Print, what: &[u8], n: u32, m: u32, k: u32, j: u32) -> io::Result<()> {
+    out.write_all(what)?;
+    println!(out; "{n} {m} {k} {j}")
 }
 
 // What a command answered: done, a number that it tells, or a refusal by its number and its values.
-fn said(command: &[u8], a: Answer) {
-    io::write_all(STDOUT_FILENO, command);
+fn said(out: &impl Print, command: &[u8], a: Answer) -> io::Result<()> {
+    out.write_all(command)?;
     match a {
-        Answer::Done => line(b": done"),
-        Answer::Told(n) => one(b": told ", n),
-        Answer::AllOutside(plane) => one(b": culled, all outside plane ", plane),
-        Answer::FirstInside(l, r, b, t) => four(b": not culled, first inside ", l, r, b, t),
-        Answer::BadLoad(count, first) => two(b": refusal 1, ", count, first),
-        Answer::BadCull(first, last) => two(b": refusal 2, ", first, last),
-        Answer::NotLoaded(slot) => one(b": refusal 3, ", slot),
-        Answer::NoCode(slot) => one(b": refusal 4, ", slot),
-        Answer::BadModify(slot, attribute) => two(b": refusal 5, ", slot, attribute),
-        Answer::NeverLoaded(slot) => one(b": refusal 6, ", slot),
-        Answer::ShortData(length) => one(b": refusal 7, ", length),
-        Answer::ShortArea(table) => one(b": refusal 8, ", table),
-        Answer::NoRoom(table) => one(b": refusal 9, ", table),
-        Answer::BadState => line(b": refusal 10"),
+        Answer::Done => line(out, b": done"),
+        Answer::Told(n) => one(out, b": told ", n),
+        Answer::AllOutside(plane) => one(out, b": culled, all outside plane ", plane),
+        Answer::FirstInside(l, r, b, t) => four(out, b": not culled, first inside ", l, r, b, t),
+        Answer::BadLoad(count, first) => two(out, b": refusal 1, ", count, first),
+        Answer::BadCull(first, last) => two(out, b": refusal 2, ", first, last),
+        Answer::NotLoaded(slot) => one(out, b": refusal 3, ", slot),
+        Answer::NoCode(slot) => one(out, b": refusal 4, ", slot),
+        Answer::BadModify(slot, attribute) => two(out, b": refusal 5, ", slot, attribute),
+        Answer::NeverLoaded(slot) => one(out, b": refusal 6, ", slot),
+        Answer::ShortData(length) => one(out, b": refusal 7, ", length),
+        Answer::ShortArea(table) => one(out, b": refusal 8, ", table),
+        Answer::NoRoom(table) => one(out, b": refusal 9, ", table),
+        Answer::BadState => line(out, b": refusal 10"),
     }
 }
 
 // Says the answer, and hands the state on.
-fn heard(command: &[u8], r: Answered) -> State {
-    let a = r.answer;
-    said(command, a);
-    r.state
+fn heard(out: &impl Print, command: &[u8], r: Answered) -> io::Result<State> {
+    said(out, command, r.answer)?;
+    Ok(r.state)
 }
 
-fn opening(matrices: &mut [f32; 64], viewports: &mut [f32; 12]) -> State {
-    heard(b"opening", State::opening(matrices, viewports))
+fn opening(
+    out: &impl Print,
+    matrices: &mut [f32; 64],
+    viewports: &mut [f32; 12],
+) -> io::Result<State> {
+    heard(out, b"opening", State::opening(matrices, viewports))
 }
 
-fn matrix(s: State, flags: u8, data: &[u8; 64], matrices: &mut [f32; 64]) -> State {
-    heard(b"matrix", s.matrix(flags, data, 0, matrices))
+fn matrix(
+    out: &impl Print,
+    s: State,
+    flags: u8,
+    data: &[u8; 64],
+    matrices: &mut [f32; 64],
+) -> io::Result<State> {
+    heard(out, b"matrix", s.matrix(flags, data, 0, matrices))
 }
 
-fn viewport(s: State, data: &[u8; 16], viewports: &mut [f32; 12]) -> State {
-    heard(b"viewport", s.set_viewport(data, 0, viewports))
+fn viewport(
+    out: &impl Print,
+    s: State,
+    data: &[u8; 16],
+    viewports: &mut [f32; 12],
+) -> io::Result<State> {
+    heard(out, b"viewport", s.set_viewport(data, 0, viewports))
 }
 
-fn geometry(s: State, off: u32, on: u32) -> State {
-    heard(b"geometry mode", s.modify_geometry_mode(off, on))
+fn geometry(out: &impl Print, s: State, off: u32, on: u32) -> io::Result<State> {
+    heard(out, b"geometry mode", s.modify_geometry_mode(off, on))
 }
 
 fn load(
+    out: &impl Print,
     s: State,
     first: u32,
     count: u32,
@@ -95,31 +105,40 @@ fn load(
     fogs: &mut [i16; 4],
     floats: &mut [f32; 90],
     words: &mut [u32; 100],
-) -> State {
+) -> io::Result<State> {
     let r = s.load(
         first, count, data, 0, matrices, scales, lights, lookats, fogs, floats, words,
     );
-    heard(b"load", r)
+    heard(out, b"load", r)
 }
 
-fn cull_test(s: State, first: u32, last: u32) -> State {
-    heard(b"cull test", s.cull_display_list(first, last))
+fn cull_test(out: &impl Print, s: State, first: u32, last: u32) -> io::Result<State> {
+    heard(out, b"cull test", s.cull_display_list(first, last))
 }
 
-fn explain_cull(s: State, first: u32, last: u32) -> State {
-    heard(b"explain cull", s.explain_cull(first, last))
+fn explain_cull(out: &impl Print, s: State, first: u32, last: u32) -> io::Result<State> {
+    heard(out, b"explain cull", s.explain_cull(first, last))
 }
 
-fn depth_test(s: State, slot: u32, threshold: u32) -> State {
-    heard(b"depth test", s.branch_z(slot, threshold))
+fn depth_test(out: &impl Print, s: State, slot: u32, threshold: u32) -> io::Result<State> {
+    heard(out, b"depth test", s.branch_z(slot, threshold))
 }
 
 // The caller's four numbers are a material, 7, and nothing else.
-fn draw(s: State, i: u32, j: u32, k: u32, indices: &mut [u32; 30], runs: &mut [u32; 16]) -> State {
-    heard(b"draw", s.draw_tri(i, j, k, 7, 0, 0, 0, indices, runs))
+fn draw(
+    out: &impl Print,
+    s: State,
+    i: u32,
+    j: u32,
+    k: u32,
+    indices: &mut [u32; 30],
+    runs: &mut [u32; 16],
+) -> io::Result<State> {
+    heard(out, b"draw", s.draw_tri(i, j, k, 7, 0, 0, 0, indices, runs))
 }
 
 fn modify(
+    out: &impl Print,
     s: State,
     slot: u32,
     attribute: u32,
@@ -127,21 +146,27 @@ fn modify(
     scales: &mut [f32; 16],
     floats: &mut [f32; 90],
     words: &mut [u32; 100],
-) -> State {
+) -> io::Result<State> {
     heard(
+        out,
         b"modify",
         s.modify_vertex(slot, attribute, value, scales, floats, words),
     )
 }
 
 fn ink_count(
+    out: &impl Print,
     s: State,
     colour: u32,
     floats: &[f32; 90],
     words: &[u32; 100],
     indices: &[u32; 30],
-) -> State {
-    heard(b"ink count", s.ink_count(colour, floats, words, indices))
+) -> io::Result<State> {
+    heard(
+        out,
+        b"ink count",
+        s.ink_count(colour, floats, words, indices),
+    )
 }
 
 // The colour word of a row: the fifth of its ten numbers.
@@ -177,7 +202,7 @@ fn corners() -> [u8; 48] {
     v
 }
 
-fn main() {
+fn main(rt: HostRuntime) -> io::Result<()> {
     // What is lent: a caller decides how much.
     let mut matrices = [0.0f32; 64];
     let mut viewports = [0.0f32; 12];
@@ -189,11 +214,12 @@ fn main() {
     let mut words = [0u32; 100];
     let mut indices = [0u32; 30];
     let mut runs = [0u32; 16];
-    let mut s = opening(&mut matrices, &mut viewports);
-    s = matrix(s, LOAD, &identity(), &mut matrices);
-    s = viewport(s, &screen(), &mut viewports);
-    s = geometry(s, KEEP_ALL, CULL_BACK);
+    let mut s = opening(&rt, &mut matrices, &mut viewports)?;
+    s = matrix(&rt, s, LOAD, &identity(), &mut matrices)?;
+    s = viewport(&rt, s, &screen(), &mut viewports)?;
+    s = geometry(&rt, s, KEEP_ALL, CULL_BACK)?;
     s = load(
+        &rt,
         s,
         0,
         3,
@@ -205,14 +231,15 @@ fn main() {
         &mut fogs,
         &mut floats,
         &mut words,
-    );
-    s = cull_test(s, 0, 2);
+    )?;
+    s = cull_test(&rt, s, 0, 2)?;
     // Why: for each of the planes left, right, bottom and top the first slot that is not outside it.
-    s = explain_cull(s, 0, 2);
-    s = depth_test(s, 0, 1022 * 65536);
-    s = draw(s, 0, 1, 2, &mut indices, &mut runs);
+    s = explain_cull(&rt, s, 0, 2)?;
+    s = depth_test(&rt, s, 0, 1022 * 65536)?;
+    s = draw(&rt, s, 0, 1, 2, &mut indices, &mut runs)?;
     // Slot 1 was drawn, so its row is copied, and the triangle keeps the old one.
     s = modify(
+        &rt,
         s,
         1,
         COLOUR,
@@ -220,19 +247,20 @@ fn main() {
         &mut scales,
         &mut floats,
         &mut words,
-    );
-    s = draw(s, 0, 1, 2, &mut indices, &mut runs);
+    )?;
+    s = draw(&rt, s, 0, 1, 2, &mut indices, &mut runs)?;
     // The row has the bytes of modify's value the other way round.
-    s = ink_count(s, 0xff0080ff, &floats, &words, &indices);
+    s = ink_count(&rt, s, 0xff0080ff, &floats, &words, &indices)?;
     // Refused: slot 9 was never loaded, and modify has no attribute 17.
-    s = draw(s, 0, 1, 9, &mut indices, &mut runs);
-    s = modify(s, 1, 17, 0, &mut scales, &mut floats, &mut words);
-    one(b"rows in use: ", s.counts.rows);
-    one(b"indices in use: ", s.counts.indices);
-    one(b"runs in use: ", s.counts.runs);
-    one(b"material of the first run: ", runs[0]);
+    s = draw(&rt, s, 0, 1, 9, &mut indices, &mut runs)?;
+    s = modify(&rt, s, 1, 17, 0, &mut scales, &mut floats, &mut words)?;
+    one(&rt, b"rows in use: ", s.counts.rows)?;
+    one(&rt, b"indices in use: ", s.counts.indices)?;
+    one(&rt, b"runs in use: ", s.counts.runs)?;
+    one(&rt, b"material of the first run: ", runs[0])?;
     one(
+        &rt,
         b"colour word of slot 1's row: ",
         colour_of(&words, s.row[1]),
-    );
+    )
 }

@@ -10,7 +10,7 @@ use lib.Dec.{ltb}
 use lib.Ieee.{Float, nan}
 use borrow.Author.Tests.{lt-ltb, le-ltb, ltb-true, ltb-false}
 use Rattle.areas.specs.Widths.{scale_width, float_width, word_width}
-use Rattle.areas.specs.Area.{room, part, write}
+use Rattle.areas.specs.Area.{part, write}
 use Rattle.areas.proofs.Tables.{length-entries}
 use Rattle.change.specs.declared.Change.{Change}
 use Rattle.change.specs.declared.Asked.{Asked}
@@ -31,7 +31,7 @@ use Rattle.stage.specs.declared.Answer.{Answer}
 use Rattle.stage.specs.declared.Answer.TheVariants.{Done, BadState}
 use Rattle.stage.specs.Answers.{number, values}
 use Rattle.stage.specs.Plan.{Table, Edit, keep, grow, patch, Row, Plan, refuse, does, unless, pick, more, table, outcome, carry, row_table}
-use Rattle.stage.specs.Sound.{sound, state_sound}
+use Rattle.stage.specs.Sound.{state_sound}
 use Rattle.stage.specs.With.{with_counts, with_unit, with_row, with_drawn, with_z}
 use Rattle.stage.specs.Modify.{areas37, edits37, asking, scale_edit, row_edit, row_change, moved, changed, change_plan, modify_plan}
 use Rattle.stage.specs.Steps.{modify_answer, slot_looked, tables_looked, counts_to}

@@ -1,7 +1,7 @@
 -- The explainer beside the cull test: each way out of its code, and what it promises of itself and of the test. Assumes nothing.
 use mathlib.Core.Path.{◌≡◌, refl, sym, ap, ◌∙◌, subst}
 use mathlib.Core.Logic.{◌⊎◌, inl, inr, ⊎_elim}
-use Prim.Native.Nat.{ℕ, suc, ◌≤◌, ◌<◌, min}
+use Prim.Native.Nat.{ℕ, suc, ◌<◌, min}
 use native.Mathlib.Omega.{arith}
 use mathlib.Core.Bool.{Bool, true, false, ◌&&◌, and-eq-true_iff}
 use mathlib.Core.List.{List, [], ◌∷◌}
@@ -22,7 +22,7 @@ use Rattle.stage.specs.Answers.{number, values}
 use Rattle.stage.specs.Plan.{Plan, refuse, does, unless, pick, telling, untouched, nothing, Outcome, outcome, carry}
 use Rattle.stage.specs.Sound.{state_sound, limit}
 use Rattle.stage.specs.Draw.{slots_to, judge_codes, codes_at, codes_of, culled, cull_plan, explain_plan}
-use Rattle.stage.specs.Explain.{SaysYes, Explains}
+use Rattle.stage.specs.Explain.{Explains}
 use Rattle.stage.proofs.Apart.{apart}
 use Rattle.stage.proofs.Loading.{untold}
 

@@ -1,5 +1,5 @@
 -- The meaning of load (REFERENCE 11): what it settles first, then its rows. Definitions only.
-use Rattle.std.specs.Prelude.{ℕ, ◌+◌, ◌-◌, ◌*◌, Bool, not, ◌&&◌, List, [], ◌∷◌, map, length, ℤ, leb, ltb, eqb, Float}
+use Rattle.std.specs.Prelude.{ℕ, ◌+◌, ◌-◌, ◌*◌, not, ◌&&◌, List, [], ◌∷◌, map, length, ℤ, leb, ltb, eqb, Float}
 use Rattle.std.specs.Float.Ieee.{eq}
 use Rattle.areas.specs.Area.{matches}
 use Rattle.matrix.specs.Math.{at, rows, laid}
@@ -20,7 +20,7 @@ use Rattle.stage.specs.declared.Counts.{Counts}
 use Rattle.stage.specs.declared.Lights.{Lights}
 use Rattle.stage.specs.declared.Lookat.{Lookat}
 use Rattle.stage.specs.declared.load.Settled.{Settled}
-use Rattle.stage.specs.Plan.{Table, Edit, only_if, keep, grow, Row, Edits, Plan, refuse, unless, pick, does, lent, judge, needs, counted, untouched, undrawn, row_table, matrix_area, scale_area, light_area, lookat_area, fog_area, float_area, word_area, table_in, after_in, Outcome, carry}
+use Rattle.stage.specs.Plan.{Table, only_if, keep, grow, Row, Edits, Plan, refuse, unless, pick, does, lent, judge, needs, counted, untouched, undrawn, row_table, matrix_area, scale_area, light_area, lookat_area, fog_area, float_area, word_area, table_in, after_in, Outcome, carry}
 use Rattle.stage.specs.Sound.{sound, limit}
 use Rattle.stage.specs.Matrices.{model_top, product}
 use Rattle.stage.specs.Rows.{fill_slots}

@@ -1,13 +1,10 @@
 -- The meaning of opening. Definitions only.
-use Rattle.std.specs.Prelude.{ℕ, ◌/◌, Bool, true, false, List, [], ◌∷◌, ◌++◌, length, replicate, pos, Float}
+use Rattle.std.specs.Prelude.{ℕ, Bool, true, false, List, [], ◌∷◌, ◌++◌, replicate, pos, Float}
 use Rattle.areas.specs.Widths.{matrix_width, viewport_width}
 use Rattle.matrix.specs.Math.{zero, identity, laid}
 use Rattle.stage.specs.declared.State.{State}
 use Rattle.stage.specs.declared.Counts.{Counts}
-use Rattle.stage.specs.declared.Texture.{Texture}
-use Rattle.stage.specs.declared.Lights.{Lights}
-use Rattle.stage.specs.declared.Lookat.{Lookat}
-use Rattle.stage.specs.Plan.{Edits, Edit, keep, grow, Plan, does, judge, Outcome, carry, table, lent, undrawn, matrix_area, viewport_area, after_in}
+use Rattle.stage.specs.Plan.{Edits, keep, grow, Plan, does, judge, table, lent, undrawn, matrix_area, viewport_area, after_in}
 use Rattle.stage.specs.With.{Slots, state, with_model, with_projection, with_combined}
 
 -- n zeros

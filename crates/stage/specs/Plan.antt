@@ -1,6 +1,6 @@
 -- The vocabulary in which the meaning of each command is said: a plan, made of the state, of what is in use of the lent tables and of the
 -- arguments alone, and what the state, the answer and the areas are after it. Definitions only.
-use Rattle.std.specs.Prelude.{◌≡◌, ℕ, ◌+◌, min, Bool, true, false, List, [], ◌∷◌, map, length, ℤ, leb, Float}
+use Rattle.std.specs.Prelude.{◌≡◌, ℕ, ◌+◌, min, List, [], ◌∷◌, map, length, ℤ, leb, Float}
 use Rattle.areas.specs.Area.{entries, room}
 use Rattle.areas.specs.Widths.{matrix_width, viewport_width, scale_width, light_width, lookat_width, fog_width, float_width, word_width, index_width, run_width}
 pub use Rattle.areas.specs.Table.{Table, table, Edit, keep, grow, patch, more, counted, after}

@@ -1,6 +1,6 @@
 -- A judge in stages: what a test of the code says of the test that a stage is defined by, and how the stage goes by it. Assumes nothing.
 use mathlib.Core.Path.{◌≡◌, sym, ◌∙◌}
-use mathlib.Core.Bool.{Bool, true, false, not, ◌||◌, ◌&&◌, and-eq-true_iff}
+use mathlib.Core.Bool.{Bool, true, false, ◌||◌, ◌&&◌, and-eq-true_iff}
 use Prim.Native.Nat.{ℕ, ◌+◌, ◌≤◌}
 use native.Mathlib.Omega.{arith}
 use lib.Dec.{leb}
@@ -13,18 +13,18 @@ use Rattle.triangle.specs.declared.verdict.Verdict.{Verdict}
 use Rattle.triangle.specs.Steps.{closes}
 
 -- `if !f() {` was taken, or left, where f answers b
-pub no : (r b : Bool) → not r ≡ true → r ≡ b → b ≡ false
-no r b p q = sym q ∙ not-true r p
+pub no : (r b : Bool) → r ≡ false → r ≡ b → b ≡ false
+no r b p q = sym q ∙ p
 
-pub yes : (r b : Bool) → not r ≡ false → r ≡ b → b ≡ true
-yes r b p q = sym q ∙ not-false r p
+pub yes : (r b : Bool) → r ≡ true → r ≡ b → b ≡ true
+yes r b p q = sym q ∙ p
 
 -- the same where the code asks for one of two
-pub or_no : (g r b : Bool) → not (g || r) ≡ true → r ≡ b → g || b ≡ false
-or_no g r b p q = rw (← q) (not-true (g || r) p)
+pub or_no : (g r b : Bool) → (g || r) ≡ false → r ≡ b → g || b ≡ false
+or_no g r b p q = rw (← q) p
 
-pub or_yes : (g r b : Bool) → not (g || r) ≡ false → r ≡ b → g || b ≡ true
-or_yes g r b p q = rw (← q) (not-false (g || r) p)
+pub or_yes : (g r b : Bool) → (g || r) ≡ true → r ≡ b → g || b ≡ true
+or_yes g r b p q = rw (← q) p
 
 -- a stage answers its verdict where its test fails, and goes on where it holds
 pub unless-no : (b : Bool) (v rest : Verdict) → b ≡ false → v ≡ unless b v rest

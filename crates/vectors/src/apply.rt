@@ -1,5 +1,6 @@
 // Calls the function that a record names and writes its answer.
 use crate::{script, show};
+use std::io;
 
 // The quotients and the whole numbers, of a half, a byte or a word.
 fn quotient(op: u8, s: &[u8]) -> f32 {
@@ -31,24 +32,24 @@ fn rooted(op: u8, s: &[u8]) -> f32 {
     }
 }
 
-fn entry(s: &[u8]) {
+fn entry(out: &impl Print, s: &[u8]) -> io::Result<()> {
     let whole = numbers::signed::signed_half(script::half(s, 0));
     let e = numbers::entry::matrix_entry(whole, script::half(s, 1));
-    show::single(e.value);
-    show::space();
-    show::truth(e.exact);
+    show::single(out, e.value)?;
+    show::space(out)?;
+    show::truth(out, e.exact)
 }
 
-fn clip_code(s: &[u8]) {
+fn clip_code(out: &impl Print, s: &[u8]) -> io::Result<()> {
     let code = matrix::clip::clip_code(script::row(s, 0));
     if code.some {
-        show::bits(code.bits);
+        show::bits(out, code.bits)
     } else {
-        show::none();
+        show::none(out)
     }
 }
 
-fn screen_z(s: &[u8]) {
+fn screen_z(out: &impl Print, s: &[u8]) -> io::Result<()> {
     let coded = script::word(s, 4) != 0;
     let depth = matrix::clip::screen_z(
         script::row(s, 0),
@@ -57,68 +58,88 @@ fn screen_z(s: &[u8]) {
         script::float(s, 6),
     );
     if depth.some {
-        show::double(depth.z);
+        show::double(out, depth.z)
     } else {
-        show::none();
+        show::none(out)
     }
 }
 
 // The matrix comes first, then the column.
-fn column(s: &[u8]) {
+fn column(out: &impl Print, s: &[u8]) -> io::Result<()> {
     let v = [
         script::float(s, 16),
         script::float(s, 17),
         script::float(s, 18),
     ];
     let r = matrix::math::mul_col_vec3(script::matrix(s, 0), v);
-    show::single(r[0]);
-    show::space();
-    show::single(r[1]);
-    show::space();
-    show::single(r[2]);
+    show::single(out, r[0])?;
+    show::space(out)?;
+    show::single(out, r[1])?;
+    show::space(out)?;
+    show::single(out, r[2])
 }
 
-fn product(s: &[u8]) {
+fn product(out: &impl Print, s: &[u8]) -> io::Result<()> {
     let r = matrix::math::mul4(script::matrix(s, 0), script::matrix(s, 16));
-    show::row(r[0]);
-    show::space();
-    show::row(r[1]);
-    show::space();
-    show::row(r[2]);
-    show::space();
-    show::row(r[3]);
+    show::row(out, r[0])?;
+    show::space(out)?;
+    show::row(out, r[1])?;
+    show::space(out)?;
+    show::row(out, r[2])?;
+    show::space(out)?;
+    show::row(out, r[3])
 }
 
 // The answer of the functions on numbers. A whole number is shown as the f32 of the same value.
-fn number(op: u8, s: &[u8]) {
+fn number(out: &impl Print, op: u8, s: &[u8]) -> io::Result<()> {
     match op {
         script::SIGNED_HALF => show::single(
+            out,
             numbers::signed::signed_half(script::half(s, 0)) as f32,
         ),
         script::SIGNED_BYTE => show::single(
+            out,
             numbers::signed::signed_byte(script::octet(s, 0)) as f32,
         ),
-        script::WIDE_BY_65536 => show::double(numbers::ratio::wide_by_65536(script::word(s, 0))),
-        script::F64_FROM_F32 => show::double(numbers::finite::f64_from_f32(script::float(s, 0))),
-        script::IS_FINITE_F32 => show::truth(numbers::finite::is_finite_f32(script::float(s, 0))),
-        script::IS_FINITE_F64 => show::truth(numbers::finite::is_finite_f64(script::double(s))),
-        script::MATRIX_ENTRY => entry(s),
-        script::SQRT_F32 | script::LENGTH | script::INVERSE_LENGTH => show::single(rooted(op, s)),
-        _ => show::single(quotient(op, s)),
+        script::WIDE_BY_65536 => show::double(
+            out,
+            numbers::ratio::wide_by_65536(script::word(s, 0)),
+        ),
+        script::F64_FROM_F32 => show::double(
+            out,
+            numbers::finite::f64_from_f32(script::float(s, 0)),
+        ),
+        script::IS_FINITE_F32 => show::truth(
+            out,
+            numbers::finite::is_finite_f32(script::float(s, 0)),
+        ),
+        script::IS_FINITE_F64 => show::truth(
+            out,
+            numbers::finite::is_finite_f64(script::double(s)),
+        ),
+        script::MATRIX_ENTRY => entry(out, s),
+        script::SQRT_F32 | script::LENGTH | script::INVERSE_LENGTH => show::single(
+            out,
+            rooted(op, s),
+        ),
+        _ => show::single(out, quotient(op, s)),
     }
 }
 
 // Writes the answer of the function `op` to the arguments s, in a line.
-pub fn run(op: u8, s: &[u8]) {
+pub fn run(out: &impl Print, op: u8, s: &[u8]) -> io::Result<()> {
     match op {
-        script::CLIP_CODE => clip_code(s),
-        script::SCREEN_Z => screen_z(s),
+        script::CLIP_CODE => clip_code(out, s),
+        script::SCREEN_Z => screen_z(out, s),
         script::MUL_ROW_VEC4 => {
-            show::row(matrix::math::mul_row_vec4(script::row(s, 0), script::matrix(s, 4)))
+            show::row(
+                out,
+                matrix::math::mul_row_vec4(script::row(s, 0), script::matrix(s, 4)),
+            )
         }
-        script::MUL_COL_VEC3 => column(s),
-        script::MUL4 => product(s),
-        _ => number(op, s),
-    }
-    show::end();
+        script::MUL_COL_VEC3 => column(out, s),
+        script::MUL4 => product(out, s),
+        _ => number(out, op, s),
+    }?;
+    show::end(out)
 }

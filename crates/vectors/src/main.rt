@@ -2,48 +2,66 @@
 // The script and the lines that must come out are made by make.py, which calculates with exact fractions.
 #![tactic(auto)]
 
-ghost use Rattle.std.specs.Prelude.{◌<◌, ◌≤◌, length};
+ghost use Rattle.std.specs.Prelude.{◌<◌, ◌≤◌, length, IfOk};
 
 mod apply;
 mod script;
 mod show;
 
+use std::io;
+use std::io::Read;
+
 // A script has fewer bytes than this.
 const ROOM: usize = 262144;
 
 // Runs the record at the place `at` and answers where the next one starts: at the end where this one cannot be run.
-fn step(s: &[u8], at: usize) -> usize
+fn step(out: &impl Print, s: &[u8], at: usize) -> io::Result<usize>
     requires { at < length s.now }
-    ensures { (at < result) × (result ≤ length s.now) }
+    ensures { IfOk result (λ next. (at < next) × (next ≤ length s.now)) }
 {
     let op = s[at];
     let size = 4 * script::words_of(op);
     if size == 0 {
-        show::unknown(op, at);
-        return s.len();
+        show::unknown(out, op, at)?;
+        return Ok(s.len());
     }
     if size >= s.len() - at {
-        show::cut_short(at);
-        return s.len();
+        show::cut_short(out, at)?;
+        return Ok(s.len());
     }
-    apply::run(op, &s[at + 1..at + 1 + size]);
-    at + 1 + size
+    apply::run(out, op, &s[at + 1..at + 1 + size])?;
+    Ok(at + 1 + size)
 }
 
 // Runs the records one after the other.
-fn run(s: &[u8]) {
+fn run(out: &impl Print, s: &[u8]) -> io::Result<()> {
     let mut at = 0;
     while at < s.len() {
-        at = step(s, at);
+        at = step(out, s, at)?;
     }
+    Ok(())
 }
 
-fn main() {
-    let mut bytes = [0u8; ROOM];
-    let n = io::read_full(libc::STDIN_FILENO, &mut bytes);
-    if n == ROOM {
-        show::too_long();
-        return;
+// Reads until the end of the input, or until there is no more room, and answers how many bytes it read.
+fn read_full(from: &mut impl Read, bytes: &mut [u8]) -> io::Result<usize>
+    ensures { IfOk result (λ n. n ≤ length bytes.new) }
+{
+    let mut n = 0;
+    while n < bytes.len() {
+        let got = from.read(&mut bytes[n..])?;
+        if got == 0 {
+            break;
+        }
+        n = n + got;
     }
-    run(&bytes[..n]);
+    Ok(n)
+}
+
+fn main(rt: HostRuntime) -> io::Result<()> {
+    let mut bytes = [0u8; ROOM];
+    let n = read_full(&mut rt.stdin(), &mut bytes)?;
+    if n == ROOM {
+        return show::too_long(&rt);
+    }
+    run(&rt, &bytes[..n])
 }

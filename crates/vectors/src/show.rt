@@ -3,34 +3,34 @@ ghost use Rattle.std.specs.Prelude.{◌≡◌, false};
 ghost use Rattle.std.specs.Float.{binary32, binary64};
 ghost use Rattle.std.specs.Float.Ieee.{ne, to_bits};
 
-use libc::STDOUT_FILENO;
+use std::io;
 
-pub fn space() {
-    io::write_all(STDOUT_FILENO, b" ");
+pub fn space(out: &impl Print) -> io::Result<()> {
+    out.write_all(b" ")
 }
 
-pub fn end() {
-    io::write_all(STDOUT_FILENO, b"\n");
+pub fn end(out: &impl Print) -> io::Result<()> {
+    out.write_all(b"\n")
 }
 
-pub fn none() {
-    io::write_all(STDOUT_FILENO, b"none");
+pub fn none(out: &impl Print) -> io::Result<()> {
+    out.write_all(b"none")
 }
 
-pub fn truth(b: bool) {
+pub fn truth(out: &impl Print, b: bool) -> io::Result<()> {
     if b {
-        io::write_all(STDOUT_FILENO, b"yes");
+        out.write_all(b"yes")
     } else {
-        io::write_all(STDOUT_FILENO, b"no");
+        out.write_all(b"no")
     }
 }
 
-pub fn bits(x: u8) {
-    io::print_hex(STDOUT_FILENO, x as u64, 2);
+pub fn bits(out: &impl Print, x: u8) -> io::Result<()> {
+    print!(out; "{x:02x}")
 }
 
-fn nan() {
-    io::write_all(STDOUT_FILENO, b"nan");
+fn nan(out: &impl Print) -> io::Result<()> {
+    out.write_all(b"nan")
 }
 
 // The bits of a float that is no NaN.
@@ -49,49 +49,42 @@ fn double_bits(x: f64) -> u64
     f64::to_bits(x)
 }
 
-pub fn single(x: f32) {
+pub fn single(out: &impl Print, x: f32) -> io::Result<()> {
     if x != x {
-        nan();
+        nan(out)
     } else {
-        io::print_hex(STDOUT_FILENO, single_bits(x) as u64, 8);
+        let w = single_bits(x);
+        print!(out; "{w:08x}")
     }
 }
 
-pub fn double(x: f64) {
+pub fn double(out: &impl Print, x: f64) -> io::Result<()> {
     if x != x {
-        nan();
+        nan(out)
     } else {
-        io::print_hex(STDOUT_FILENO, double_bits(x), 16);
+        let w = double_bits(x);
+        print!(out; "{w:016x}")
     }
 }
 
-pub fn row(r: [f32; 4]) {
-    single(r[0]);
-    space();
-    single(r[1]);
-    space();
-    single(r[2]);
-    space();
-    single(r[3]);
+pub fn row(out: &impl Print, r: [f32; 4]) -> io::Result<()> {
+    single(out, r[0])?;
+    space(out)?;
+    single(out, r[1])?;
+    space(out)?;
+    single(out, r[2])?;
+    space(out)?;
+    single(out, r[3])
 }
 
-pub fn unknown(op: u8, at: usize) {
-    io::write_all(STDOUT_FILENO, b"vectors: no function has the number ");
-    io::print_decimal(STDOUT_FILENO, op as u64);
-    io::write_all(STDOUT_FILENO, b", at byte ");
-    io::print_decimal(STDOUT_FILENO, at as u64);
-    end();
+pub fn unknown(out: &impl Print, op: u8, at: usize) -> io::Result<()> {
+    println!(out; "vectors: no function has the number {op}, at byte {at}")
 }
 
-pub fn too_long() {
-    io::write_all(STDOUT_FILENO, b"vectors: the script is too long\n");
+pub fn too_long(out: &impl Print) -> io::Result<()> {
+    println!(out; "vectors: the script is too long")
 }
 
-pub fn cut_short(at: usize) {
-    io::write_all(
-        STDOUT_FILENO,
-        b"vectors: the script is cut short in the record at byte ",
-    );
-    io::print_decimal(STDOUT_FILENO, at as u64);
-    end();
+pub fn cut_short(out: &impl Print, at: usize) -> io::Result<()> {
+    println!(out; "vectors: the script is cut short in the record at byte {at}")
 }

@@ -6,7 +6,6 @@ use native.Mathlib.Omega.{arith}
 use mathlib.Core.Path.{◌≡◌, refl, ap}
 use mathlib.Core.List.{List, [], ◌∷◌, ◌++◌, map}
 use lib.ListN.{length, get_or}
-use lib.Ieee.{Float}
 use Rattle.areas.specs.Area.{Wide}
 use Rattle.areas.specs.Widths.{float_width, word_width}
 use Rattle.matrix.specs.Math as math

@@ -3,8 +3,6 @@ use Rattle.std.specs.Prelude.{ℕ, zero, suc, ◌+◌, List, [], ◌∷◌, Floa
 use Rattle.matrix.specs.Math as math
 use Rattle.matrix.specs.Math.{at, one, row_times}
 use Rattle.matrix.specs.Clip.{code_of, depth_of}
-use Rattle.matrix.specs.declared.clip.ClipCode.{ClipCode}
-use Rattle.matrix.specs.declared.clip.ScreenZ.{ScreenZ}
 use Rattle.layout.specs.Layout.{vertex_at}
 use Rattle.layout.specs.declared.records.Vertex.{Vertex}
 use Rattle.vertex.specs.declared.Shared.{Shared}

@@ -1,5 +1,4 @@
 -- `numbers::entry::matrix_entry` meets its contract. Assumes nothing.
-use Rattle.std.proofs.Common.{rules}
 use Rattle.numbers.proofs.Parts.{entry-is, exact-is}
 use Rattle.numbers.proofs.entry.matrix_entry.Goals as goal
 

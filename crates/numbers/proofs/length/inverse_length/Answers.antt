@@ -1,5 +1,5 @@
 -- `numbers::length::inverse_length` meets its contract. Assumes nothing.
-use Rattle.std.proofs.Common.{true, false, rules}
+use Rattle.std.proofs.Common.{true, false}
 use lib.Ieee.{of_bits}
 use Rattle.numbers.specs.Choice.{pick}
 use Rattle.numbers.proofs.Inverse.{by-test}

@@ -1,5 +1,4 @@
 -- `numbers::length::length` meets its contract. Assumes nothing.
-use Rattle.std.proofs.Common.{rules}
 use Rattle.numbers.proofs.length.length.Goals as goal
 
 pub returns : goal.returns

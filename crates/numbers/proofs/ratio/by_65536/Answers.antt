@@ -1,5 +1,5 @@
 -- `numbers::ratio::by_65536` meets its contract. Assumes nothing.
-use Rattle.std.proofs.Common.{pos, refl, w16, rules}
+use Rattle.std.proofs.Common.{pos, refl, w16}
 use lib.Ieee.{binary32, of_bits}
 use Rattle.numbers.proofs.Quotients.{div-unsigned}
 use Rattle.numbers.proofs.ratio.by_65536.Goals as goal

@@ -1,5 +1,5 @@
 -- `numbers::ratio::by_67108864` meets its contract. Assumes nothing.
-use Rattle.std.proofs.Common.{pos, lit≤, rules}
+use Rattle.std.proofs.Common.{pos, lit≤}
 use lib.Ieee.{of_bits}
 use Rattle.numbers.proofs.Quotients.{div-shift}
 use Rattle.numbers.proofs.ratio.by_67108864.Goals as goal

@@ -1,5 +1,5 @@
 -- `numbers::ratio::wide_by_65536` meets its contract. Assumes nothing.
-use Rattle.std.proofs.Common.{pos, refl, w32, rules}
+use Rattle.std.proofs.Common.{pos, refl, w32}
 use lib.Ieee.{binary64, of_bits}
 use Rattle.numbers.proofs.Quotients.{div-unsigned}
 use Rattle.numbers.proofs.ratio.wide_by_65536.Goals as goal

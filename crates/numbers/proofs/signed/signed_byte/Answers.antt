@@ -1,5 +1,5 @@
 -- `numbers::signed::signed_byte` meets its contract. Assumes nothing.
-use Rattle.std.proofs.Common.{w8, rules}
+use Rattle.std.proofs.Common.{w8}
 use Rattle.numbers.proofs.Halves.{high_fits, high_is, low-is}
 use Rattle.numbers.proofs.signed.signed_byte.Goals as goal
 

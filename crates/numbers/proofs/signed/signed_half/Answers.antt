@@ -1,5 +1,5 @@
 -- `numbers::signed::signed_half` meets its contract. Assumes nothing.
-use Rattle.std.proofs.Common.{w16, rules}
+use Rattle.std.proofs.Common.{w16}
 use Rattle.numbers.proofs.Halves.{high_fits, high_is, low-is}
 use Rattle.numbers.proofs.signed.signed_half.Goals as goal
 

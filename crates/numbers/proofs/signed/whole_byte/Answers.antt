@@ -1,5 +1,5 @@
 -- `numbers::signed::whole_byte` meets its contract. Assumes nothing.
-use Rattle.std.proofs.Common.{w8, rules}
+use Rattle.std.proofs.Common.{w8}
 use lib.Ieee.{binary32}
 use Rattle.numbers.proofs.Quotients.{whole-signed}
 use Rattle.numbers.proofs.signed.whole_byte.Goals as goal

@@ -1,6 +1,6 @@
 -- `numbers::sqrt::nearest_root` meets its contract. Assumes nothing.
-use Rattle.std.proofs.Common.{◌-◌, ⊎_elim, arith}
-use Rattle.numbers.proofs.Turns.{Turn, start, turn_odd, turn_even, end-up, end-down}
+use Rattle.std.proofs.Common.{◌-◌}
+use Rattle.numbers.proofs.Turns.{Turn}
 use Rattle.numbers.proofs.sqrt.nearest_root.Given as goal
 
 abbrev pub invariant-loop-i : goal.invariant-loop-i

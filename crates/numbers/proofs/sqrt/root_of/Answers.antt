@@ -1,5 +1,5 @@
 -- `numbers::sqrt::root_of` meets its contract. Assumes nothing.
-use Rattle.std.proofs.Common.{refl, arith, rules}
+use Rattle.std.proofs.Common.{refl, arith}
 use Rattle.numbers.proofs.Rooted.{root-at}
 use Rattle.numbers.proofs.sqrt.root_of.Goals as goal
 

@@ -1,8 +1,8 @@
 -- `numbers::sqrt::root_of_small` meets its contract. Assumes nothing.
-use Rattle.std.proofs.Common.{ap, ◌∙◌, arith}
+use Rattle.std.proofs.Common.{ap, ◌∙◌}
 use lib.Ieee.{binary32}
 use Rattle.numbers.specs.Sqrt.{rooted}
-use Rattle.numbers.proofs.Small.{Moved, begin, turn}
+use Rattle.numbers.proofs.Small.{begin, turn}
 use Rattle.numbers.proofs.sqrt.root_of_small.Goals as goal
 
 pub loop-digits-init : goal.loop-digits-init

@@ -1,8 +1,5 @@
 -- `numbers::sqrt::root_of_small` meets its contract. Assumes nothing.
-use Rattle.std.proofs.Common.{ap, ◌∙◌, arith}
-use lib.Ieee.{binary32}
-use Rattle.numbers.specs.Sqrt.{rooted}
-use Rattle.numbers.proofs.Small.{Moved, begin, turn}
+use Rattle.numbers.proofs.Small.{Moved}
 use Rattle.numbers.proofs.sqrt.root_of_small.Given as goal
 
 abbrev pub invariant-loop-digits : goal.invariant-loop-digits

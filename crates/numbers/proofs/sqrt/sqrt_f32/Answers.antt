@@ -1,5 +1,5 @@
 -- `numbers::sqrt::sqrt_f32` meets its contract. Assumes nothing.
-use Rattle.std.proofs.Common.{◌≡◌, ◌≤◌, ◌%◌, false, Float, ◌<◌, T, sym, ◌∙◌, subst, arith, rules}
+use Rattle.std.proofs.Common.{◌≡◌, ◌≤◌, ◌%◌, false, Float, ◌<◌, T, sym, ◌∙◌, subst, arith}
 use lib.Ieee.{ne, binary32, fits, to_bits}
 use Rattle.numbers.proofs.Ends.{was-nan, no_nan, low-no-nan, bits-low, root-of-nan, root-of-zero, root-of-inf, root-of-negative, root-small, root-normal}
 use Rattle.numbers.proofs.sqrt.sqrt_f32.Goals as goal

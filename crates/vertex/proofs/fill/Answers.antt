@@ -1,0 +1,57 @@
+use native.Mathlib.Omega.{arith}
+use mathlib.Core.Bool.{true, false}
+use mathlib.Core.Path.{◌≡◌, refl, ap, subst}
+use Prim.Native.Nat.{ℕ, ◌+◌}
+use Rattle.areas.specs.Widths.{float_width, word_width}
+use Rattle.areas.proofs.Tables.{length-write}
+use Rattle.vertex.specs.declared.Slot.{Slot}
+use Rattle.vertex.specs.Vertices.{floats_of, words_of}
+use Rattle.vertex.specs.Steps.{slot_at_turn, Laid, Marked}
+use Rattle.vertex.proofs.Believe.{floats-size, words_size}
+use Rattle.vertex.proofs.Turns.{turned, rowed, laid_none, marked-none}
+use Rattle.vertex.proofs.fill.Goals as goal
+
+pub loop-i-init : goal.loop-i-init
+loop-i-init c = (omega arith, laid_none _ _ _ _ _ _ _ _ _ _ _ _, marked-none _ _ _ _ _ _, refl, refl)
+
+pub lay-s-requires : goal.lay-s-requires
+lay-s-requires c =
+    let g = c.requires in
+    let h = c.loop-i.invariant in
+    (omega (arith, g.floats, h.3), omega (arith, g.words, h.4), omega (arith, g.bytes))
+
+pub loop-i-preserved : goal.loop-i-preserved
+loop-i-preserved c =
+    let l = c.loop-i in
+    let a = c.args in
+    let h = l.invariant.1 in
+    let u = l.invariant.2 in
+    let y = c.lay-s.ensures in
+    let v = slot_at_turn a.m a.e a.«data».now a.at in
+    let d = rowed floats_of float_width a.n floats-size a.«data».now a.at l.i a.floats.now h.floats y.0 in
+    let w = rowed (words_of a.e) word_width a.n (words_size a.e) a.«data».now a.at l.i a.words.now h.words y.1 in (
+      omega arith,
+      record {
+        floats = d;
+        words = w;
+        codeds = turned (λ (i : ℕ). (v i).coded) a.coded.now a.first l.i h.codeds (ap (λ (s : Slot). s.coded) y.2) refl;
+        codes = turned (λ (i : ℕ). (v i).code) a.code.now a.first l.i h.codes (ap (λ (s : Slot). s.code) y.2) refl;
+        deeps = turned (λ (i : ℕ). (v i).deep) a.deep.now a.first l.i h.deeps (ap (λ (s : Slot). s.deep) y.2) refl;
+        zs = turned (λ (i : ℕ). (v i).z) a.z.now a.first l.i h.zs (ap (λ (s : Slot). s.z) y.2) refl;
+      },
+      record {
+        rows = turned (λ (i : ℕ). a.n + i) a.row.now a.first l.i u.rows refl refl;
+        evers = turned (λ (i : ℕ). true) a.ever.now a.first l.i u.evers refl refl;
+        loadeds = turned (λ (i : ℕ). true) a.loaded.now a.first l.i u.loadeds refl refl;
+        drawns = turned (λ (i : ℕ). false) a.drawn.now a.first l.i u.drawns refl refl;
+      },
+      rw (d, length-write),
+      rw (w, length-write),
+    )
+
+pub returns : goal.returns
+returns c =
+    let a = c.args in
+    let l = c.loop-i in
+    let e : l.i ≡ a.count = omega (arith, c.loop-i-test.false, l.invariant.0) in
+    subst (λ (i : ℕ). Laid a.m a.e a.«data».now a.at a.first a.n i a.floats.now a.words.now a.coded.now a.code.now a.deep.now a.z.now l.floats l.words l.coded l.code l.deep l.z × Marked a.first a.n i a.row.now a.ever.now a.loaded.now a.drawn.now l.row l.ever l.loaded l.drawn) e (l.invariant.1, l.invariant.2)

@@ -1,0 +1,7 @@
+use Rattle.matrix.proofs.Constants.{one32}
+use Rattle.vertex.specs.Vertices.{slot_of, slot_at, clip_of}
+use Rattle.vertex.proofs.slot_of.Goals as goal
+
+pub returns : goal.returns
+unfolding slot_of slot_at clip_of
+returns c = rw (c.screen_z-d.ensures, c.clip_code-c.ensures, c.mul_row_vec4-p.ensures, one32)
