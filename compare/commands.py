@@ -182,6 +182,9 @@ def check_failing(checks, place):
     place.program("exec yes")
     piped = subprocess.run(["bash", "-c", '"$0" "$1" | head -n 1', place.root / "replay", good], capture_output=True, env=place.env(), timeout=SECONDS)
     checks.expect(piped.stdout == b"y\n" and not of_progress(piped.stderr.decode()), f"a reader that has gone: {piped.stderr[:200]}")
+    place.program("echo y; echo 'Error: Os { code: 32, kind: BrokenPipe, message: \"Broken pipe\" }' >&2; exit 1")
+    status, out, said = place.run(good)
+    checks.expect((status, of_progress(said)) == (141, []), "a reader that has gone, as a Rattle program tells it")
 
 
 def check_build(checks, place):
@@ -285,6 +288,9 @@ def check_built(checks, place):
     check_broken(checks, place, "the program")
     status, out, said = place.run("--words", place.put("good.trace", GOOD))
     checks.expect(status == 0 and f"\n    {NOT_CULLED}\n".encode() in out and not of_progress(said), f"the program in words: {said}")
+    # more output than a pipe holds
+    piped = subprocess.run(["bash", "-c", '"$0" "$@" | head -n 1', place.root / "replay", *[place.put("good.trace", GOOD)] * 200], capture_output=True, env=place.env(), timeout=SECONDS)
+    checks.expect(piped.stdout.count(b"\n") == 1 and not of_progress(piped.stderr.decode()), f"a reader of the program that has gone: {piped.stderr[:200]}")
 
 
 CHECKS = (check_usage, check_unreadable, check_good, check_broken, check_failing, check_build, check_words, check_show, check_misfits)

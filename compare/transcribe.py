@@ -26,7 +26,7 @@ OUT = HERE.parent / "crates" / "original" / "proofs" / "Traced.antt"
 SECONDS = 60
 LEFT_OUT = ("mark", "ink", "explain")
 NOT_THE_ORIGINALS = ("open", "lend", "poke", "write")
-NAN = "7fc00000"      # the pattern that toBits writes
+NAN = "7fc00000"      # the pattern that to_bits writes
 
 USES = """\
 -- Traces that the original itself has run: the transcription computes the numbers that its driver printed. Assumes nothing.

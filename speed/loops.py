@@ -232,7 +232,7 @@ fn main(rt: HostRuntime) -> io::Result<()> {
         floats[i] = std::num::f32_from_bits_with_nan(word(&bytes, 4 + 4 * i));
     }
     let h = sum(&floats, word(&bytes, 0) as usize);
-    println!(rt; "{h} ")
+    println!(rt; "{h}")
 }
 """
 
