@@ -182,7 +182,7 @@ def check_failing(checks, place):
     place.program("exec yes")
     piped = subprocess.run(["bash", "-c", '"$0" "$1" | head -n 1', place.root / "replay", good], capture_output=True, env=place.env(), timeout=SECONDS)
     checks.expect(piped.stdout == b"y\n" and not of_progress(piped.stderr.decode()), f"a reader that has gone: {piped.stderr[:200]}")
-    place.program("echo y; echo 'Error: Os { code: 32, kind: BrokenPipe, message: \"Broken pipe\" }' >&2; exit 1")
+    place.program("echo y; echo 'Error: Os {{ code: 32, kind: BrokenPipe, message: \"Broken pipe\" }}' >&2; exit 1")
     status, out, said = place.run(good)
     checks.expect((status, of_progress(said)) == (141, []), "a reader that has gone, as a Rattle program tells it")
 
