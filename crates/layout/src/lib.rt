@@ -8,23 +8,16 @@ ghost use Rattle.layout.specs.Layout.{byte_at, half_at, word_at, signed_at, rati
 
 use crate::records::{Light, Vertex, Viewport};
 use numbers::entry::Entry;
+use numbers::ratio::{Whole, by};
 
 pub mod records;
-
-// The byte at `at`.
-pub fn byte(s: &[u8], at: usize) -> u32
-    requires { at < length s.now }
-    ensures { (result ≡ byte_at s.now at) × (result < 256) }
-{
-    s[at] as u32
-}
 
 // The 16 bits at `at`, high byte first.
 pub fn half(s: &[u8], at: usize) -> u16
     requires { at + 2 ≤ length s.now }
     ensures { result ≡ half_at s.now at }
 {
-    (byte(s, at) * 256 + byte(s, at + 1)) as u16
+    u16::from_be_bytes([s[at], s[at + 1]])
 }
 
 // The four bytes at `at`, the first lowest.
@@ -32,7 +25,7 @@ pub fn colour_word(s: &[u8], at: usize) -> u32
     requires { at + 4 ≤ length s.now }
     ensures { result ≡ word_at s.now at }
 {
-    byte(s, at) + byte(s, at + 1) * 256 + byte(s, at + 2) * 65536 + byte(s, at + 3) * 16777216
+    u32::from_le_bytes([s[at], s[at + 1], s[at + 2], s[at + 3]])
 }
 
 // The half at `at`, read with its sign.
@@ -104,7 +97,7 @@ fn whole(s: &[u8], at: usize) -> f32
     requires { at + 2 ≤ length s.now }
     ensures { result ≡ ratio_at s.now at 1 }
 {
-    numbers::signed::whole_half(signed_half(s, at))
+    signed_half(s, at).to_f32()
 }
 
 // A vertex: the 16 bytes from `at` on, of which bytes 6 and 7 are ignored.
@@ -128,9 +121,9 @@ fn triple(s: &[u8], at: usize) -> [f32; 3]
     ensures { result ≡ triple_at s.now at }
 {
     [
-        numbers::ratio::by_4(signed_half(s, at)),
-        numbers::ratio::by_4(signed_half(s, at + 2)),
-        numbers::ratio::by_1024(signed_half(s, at + 4)),
+        by::<4, _>(signed_half(s, at)),
+        by::<4, _>(signed_half(s, at + 2)),
+        by::<1024, _>(signed_half(s, at + 4)),
     ]
 }
 
@@ -153,9 +146,9 @@ pub fn colour(s: &[u8], at: usize) -> [f32; 3]
     ensures { result ≡ colour_at s.now at }
 {
     [
-        numbers::ratio::by_255(s[at]),
-        numbers::ratio::by_255(s[at + 1]),
-        numbers::ratio::by_255(s[at + 2]),
+        by::<255, _>(s[at]),
+        by::<255, _>(s[at + 1]),
+        by::<255, _>(s[at + 2]),
     ]
 }
 
@@ -164,7 +157,7 @@ fn axis(s: &[u8], at: usize) -> f32
     requires { at < length s.now }
     ensures { result ≡ axis_at s.now at }
 {
-    numbers::ratio::by_127(numbers::signed::signed_byte(s[at]))
+    by::<127, _>(numbers::signed::signed_byte(s[at]))
 }
 
 // A direction: three signed bytes from `at` on, each divided by 127.

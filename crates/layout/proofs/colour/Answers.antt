@@ -4,4 +4,4 @@ use Rattle.layout.proofs.colour.Goals as goal
 
 pub returns : goal.returns
 unfolding colour_at
-returns c = rw (c.by_255.ensures, c.by_255-2.ensures, c.by_255-3.ensures)
+returns c = rw (c.by.ensures, c.by-2.ensures, c.by-3.ensures)

@@ -8,10 +8,10 @@ pub returns : goal.returns
 unfolding triple_at
 returns c =
     rw (
-      c.by_4.ensures,
+      c.by.ensures,
       handed w16 c.signed_half.type_inv c.signed_half.ensures,
-      c.by_4-2.ensures,
+      c.by-2.ensures,
       handed w16 c.signed_half-2.type_inv c.signed_half-2.ensures,
-      c.by_1024.ensures,
+      c.by-3.ensures,
       handed w16 c.signed_half-3.type_inv c.signed_half-3.ensures,
     )
