@@ -4,7 +4,7 @@
 
 ghost use Rattle.std.specs.Prelude.{◌≡◌, ◌+◌, ◌≤◌, ◌<◌, length};
 ghost use Rattle.numbers.specs.Choice.{pick};
-ghost use Rattle.layout.specs.Layout.{byte_at, half_at, word_at, signed_at, ratio_at, entry_at, row_at, matrix_at, exact_at, noes, inexact_at, vertex_at, triple_at, viewport_at, colour_at, axis_at, direction_at, light_at};
+ghost use Rattle.layout.specs.Layout.{byte_at, half_at, word_at, signed_at, ratio_at, marked_at, entries_at, row_at, matrix_at, exact_at, noes, inexact_at, vertex_at, triple_at, viewport_at, colour_at, axis_at, direction_at, light_at};
 
 use crate::records::{Light, Vertex, Viewport};
 use numbers::entry::Entry;
@@ -39,24 +39,37 @@ fn signed_half(s: &[u8], at: usize) -> i16
 // Entry `k` of a matrix at `at`, its whole part among the first 32 bytes, its fraction among the next 32; and whether it is exact.
 fn entry(s: &[u8], at: usize, k: usize) -> Entry
     requires { (at + 64 ≤ length s.now) × (k < 16) }
-    ensures { result ≡ record { value = entry_at s.now at k; exact = exact_at s.now at k } }
+    ensures { result ≡ marked_at s.now at k }
 {
     numbers::entry::matrix_entry(signed_half(s, at + 2 * k), half(s, at + 32 + 2 * k))
 }
 
 // Entries `k` to `k + 3`.
+#[tactic(auto, unfolding(crate::specs::Layout::entries_at))]
+fn entries(s: &[u8], at: usize, k: usize) -> [Entry; 4]
+    requires { (at + 64 ≤ length s.now) × (k + 4 ≤ 16) }
+    ensures { result ≡ entries_at s.now at k }
+{
+    [
+        entry(s, at, k),
+        entry(s, at, k + 1),
+        entry(s, at, k + 2),
+        entry(s, at, k + 3),
+    ]
+}
+
+// The values of entries `k` to `k + 3`.
+#[tactic(auto, unfolding(crate::specs::Layout::row_at, crate::specs::Layout::entries_at, crate::specs::Layout::marked_at))]
 fn row(s: &[u8], at: usize, k: usize) -> [f32; 4]
     requires { (at + 64 ≤ length s.now) × (k + 4 ≤ 16) }
     ensures { result ≡ row_at s.now at k }
 {
-    let a = entry(s, at, k);
-    let b = entry(s, at, k + 1);
-    let c = entry(s, at, k + 2);
-    let d = entry(s, at, k + 3);
+    let [a, b, c, d] = entries(s, at, k);
     [a.value, b.value, c.value, d.value]
 }
 
 // A matrix: the 64 bytes from `at` on.
+#[tactic(auto, unfolding(crate::specs::Layout::matrix_at))]
 pub fn matrix(s: &[u8], at: usize) -> [[f32; 4]; 4]
     requires { at + 64 ≤ length s.now }
     ensures { result ≡ matrix_at s.now at }
@@ -76,10 +89,7 @@ fn row_inexact(s: &[u8], at: usize, k: usize) -> u32
     requires { (at + 64 ≤ length s.now) × (k + 4 ≤ 16) }
     ensures { (result ≡ noes (λ j. exact_at s.now at (k + j)) 4) × (result ≤ 4) }
 {
-    let a = entry(s, at, k);
-    let b = entry(s, at, k + 1);
-    let c = entry(s, at, k + 2);
-    let d = entry(s, at, k + 3);
+    let [a, b, c, d] = entries(s, at, k);
     lost(a) + lost(b) + lost(c) + lost(d)
 }
 
@@ -101,6 +111,7 @@ fn whole(s: &[u8], at: usize) -> f32
 }
 
 // A vertex: the 16 bytes from `at` on, of which bytes 6 and 7 are ignored.
+#[tactic(auto, unfolding(crate::specs::Layout::vertex_at))]
 pub fn vertex(s: &[u8], at: usize) -> Vertex
     requires { at + 16 ≤ length s.now }
     ensures { result ≡ vertex_at s.now at }
@@ -128,6 +139,7 @@ fn triple(s: &[u8], at: usize) -> [f32; 3]
 }
 
 // A viewport: the 16 bytes from `at` on, of which the fourth scale and the fourth translation are ignored.
+#[tactic(auto, unfolding(crate::specs::Layout::viewport_at))]
 pub fn viewport(s: &[u8], at: usize) -> Viewport
     requires { at + 16 ≤ length s.now }
     ensures { result ≡ viewport_at s.now at }
@@ -141,6 +153,7 @@ pub fn viewport(s: &[u8], at: usize) -> Viewport
 }
 
 // A colour: three bytes from `at` on, each divided by 255.
+#[tactic(auto, unfolding(crate::specs::Layout::colour_at))]
 pub fn colour(s: &[u8], at: usize) -> [f32; 3]
     requires { at + 3 ≤ length s.now }
     ensures { result ≡ colour_at s.now at }
@@ -161,6 +174,7 @@ fn axis(s: &[u8], at: usize) -> f32
 }
 
 // A direction: three signed bytes from `at` on, each divided by 127.
+#[tactic(auto, unfolding(crate::specs::Layout::direction_at))]
 pub fn direction(s: &[u8], at: usize) -> [f32; 3]
     requires { at + 3 ≤ length s.now }
     ensures { result ≡ direction_at s.now at }
@@ -169,6 +183,7 @@ pub fn direction(s: &[u8], at: usize) -> [f32; 3]
 }
 
 // A light: of the 11 bytes from `at` on, the colour at 0 to 2 and the direction at 8 to 10.
+#[tactic(auto, unfolding(crate::specs::Layout::light_at))]
 pub fn light(s: &[u8], at: usize) -> Light
     requires { at + 11 ≤ length s.now }
     ensures { result ≡ light_at s.now at }
