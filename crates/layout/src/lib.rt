@@ -37,6 +37,7 @@ fn signed_half(s: &[u8], at: usize) -> i16
 }
 
 // Entry `k` of a matrix at `at`, its whole part among the first 32 bytes, its fraction among the next 32; and whether it is exact.
+#[tactic(auto, using(crate::proofs::Signed::handed), unfolding(crate::specs::Layout::marked_at, crate::specs::Layout::entry_at, crate::specs::Layout::exact_at))]
 fn entry(s: &[u8], at: usize, k: usize) -> Entry
     requires { (at + 64 ≤ length s.now) × (k < 16) }
     ensures { result ≡ marked_at s.now at k }
@@ -78,6 +79,7 @@ pub fn matrix(s: &[u8], at: usize) -> [[f32; 4]; 4]
 }
 
 // 1 for an entry that is not exact.
+#[tactic(auto, unfolding(numbers::specs::Choice::pick))]
 fn lost(e: Entry) -> u32
     ensures { (result ≡ pick e.exact 0 1) × (result ≤ 1) }
 {
@@ -119,14 +121,11 @@ pub fn vertex(s: &[u8], at: usize) -> Vertex
     let pos = [whole(s, at), whole(s, at + 2), whole(s, at + 4)];
     let st = [whole(s, at + 8), whole(s, at + 10)];
     let colour = colour_word(s, at + 12);
-    Vertex {
-        pos: pos,
-        st: st,
-        colour: colour,
-    }
+    Vertex { pos, st, colour }
 }
 
 // x, y and z at `at`: x and y divided by 4, z by 1024.
+#[tactic(auto, using(crate::proofs::Signed::handed), unfolding(crate::specs::Layout::triple_at))]
 fn triple(s: &[u8], at: usize) -> [f32; 3]
     requires { at + 6 ≤ length s.now }
     ensures { result ≡ triple_at s.now at }
@@ -146,10 +145,7 @@ pub fn viewport(s: &[u8], at: usize) -> Viewport
 {
     let scale = triple(s, at);
     let translation = triple(s, at + 8);
-    Viewport {
-        scale: scale,
-        translation: translation,
-    }
+    Viewport { scale, translation }
 }
 
 // A colour: three bytes from `at` on, each divided by 255.
@@ -190,8 +186,5 @@ pub fn light(s: &[u8], at: usize) -> Light
 {
     let direction = direction(s, at + 8);
     let colour = colour(s, at);
-    Light {
-        direction: direction,
-        colour: colour,
-    }
+    Light { direction, colour }
 }

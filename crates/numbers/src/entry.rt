@@ -20,8 +20,5 @@ pub fn matrix_entry(whole: i16, fraction: u16) -> Entry
     let b = by::<65536, _>(fraction);
     let value = a + b;
     let exact = value - a == b;
-    Entry {
-        value: value,
-        exact: exact,
-    }
+    Entry { value, exact }
 }
