@@ -51,14 +51,14 @@ fn low(x: u32) -> u16
 fn half_by_32(h: u16) -> f32
     ensures { result ≡ of_ratio binary32 (signed 16 h) 32 }
 {
-    numbers::ratio::by_32(numbers::signed::signed_half(h))
+    numbers::ratio::by::<32, _>(numbers::signed::signed_half(h))
 }
 
 // A half read with its sign, divided by 4.
 fn half_by_4(h: u16) -> f32
     ensures { result ≡ of_ratio binary32 (signed 16 h) 4 }
 {
-    numbers::ratio::by_4(numbers::signed::signed_half(h))
+    numbers::ratio::by::<4, _>(numbers::signed::signed_half(h))
 }
 
 // The change that an attribute number and a value word ask for.

@@ -5,16 +5,17 @@ ghost use Rattle.areas.specs.Widths.{scale_width};
 ghost use Rattle.fold.specs.Scales.{scale_entry, same_scale};
 
 use areas::widths::SCALE_WIDTH;
+use numbers::ratio::by;
 
 // The coordinate pair, then the texgen pair.
 pub fn scales_of(sc: u16, tc: u16) -> [f32; 4]
     ensures { result ≡ scale_entry sc tc }
 {
     [
-        numbers::ratio::by_2097152(sc),
-        numbers::ratio::by_2097152(tc),
-        numbers::ratio::by_65536(sc),
-        numbers::ratio::by_65536(tc),
+        by::<2097152, _>(sc),
+        by::<2097152, _>(tc),
+        by::<65536, _>(sc),
+        by::<65536, _>(tc),
     ]
 }
 

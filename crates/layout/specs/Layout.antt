@@ -4,6 +4,7 @@ use Rattle.std.specs.Float.{binary32}
 use Rattle.numbers.specs.Choice.{pick}
 use Rattle.numbers.specs.Ratio.{signed, of_ratio}
 use Rattle.numbers.specs.Ratio as ratio
+use Rattle.numbers.specs.declared.entry.Entry.{Entry}
 use Rattle.layout.specs.declared.records.Vertex.{Vertex}
 use Rattle.layout.specs.declared.records.Viewport.{Viewport}
 use Rattle.layout.specs.declared.records.Light.{Light}
@@ -45,6 +46,16 @@ matrix_at s i = row_at s i 0 ∷ row_at s i 4 ∷ row_at s i 8 ∷ row_at s i 12
 -- entry k is exact: its f32 is the value that its whole part and its fraction make
 unfoldable pub exact_at : List ℕ → ℕ → ℕ → Bool
 exact_at s i k = ratio.exact (signed_at s (i + 2 * k)) (half_at s (i + 32 + 2 * k))
+
+-- entry k with its mark
+unfoldable pub marked_at : List ℕ → ℕ → ℕ → Entry
+unfolding entry_at exact_at
+marked_at s i k = record { value = entry_at s i k; exact = exact_at s i k }
+
+-- entries k to k + 3 with their marks
+unfoldable pub entries_at : List ℕ → ℕ → ℕ → List Entry
+unfolding marked_at
+entries_at s i k = marked_at s i k ∷ marked_at s i (k + 1) ∷ marked_at s i (k + 2) ∷ marked_at s i (k + 3) ∷ []
 
 -- how many of the n marks b 0, b 1, .. say no
 unfoldable pub noes : (ℕ → Bool) → ℕ → ℕ

@@ -1,5 +1,5 @@
 -- Quotients of floats as fractions rounded once: of an integer that the format holds, by any whole number, and of an integer of 32 bits that is rounded first, by a power of two. Assumes nothing.
-use Rattle.std.proofs.Common.{◌≡◌, ℕ, zero, suc, ◌+◌, ◌-◌, ◌*◌, ◌/◌, ◌%◌, ◌^◌, ◌<◌, ◌≤◌, Bool, true, false, cond, T, eqb, ltb, leb, ◌⊎◌, ℤ, pos, negsuc, nat_abs, sym, refl, ap, ◌∙◌, subst, inl, inr, le_trans, le_of_eq, le_refl, lt_of_le_of_lt, le_of_lt, mul-le-mul_right, zero-lt-suc, mul_assoc, mul_comm, eq-zero-or-pos, mul-le-mul, mul-pos, one-mul, zero-mul, mul-one, mul_right_comm, mul-div_cancel, arith, lit<, lit≤, ltb→lt, leb→le, pow_pos, pow_mono, pow-add, shl_lt, Fits, SFits, to_z, of_z}
+use Rattle.std.proofs.Common.{◌≡◌, ℕ, zero, suc, ◌+◌, ◌-◌, ◌*◌, ◌/◌, ◌%◌, ◌^◌, ◌<◌, ◌≤◌, Bool, true, false, cond, T, eqb, ltb, leb, ◌⊎◌, ℤ, pos, negsuc, nat_abs, sym, refl, ap, ◌∙◌, subst, inl, inr, true≢false, le_trans, le_of_eq, le_refl, lt_of_le_of_lt, le_of_lt, mul-le-mul_right, zero-lt-suc, mul_assoc, mul_comm, eq-zero-or-pos, mul-le-mul, mul-pos, one-mul, zero-mul, mul-one, mul_right_comm, mul-div_cancel, arith, lit<, lit≤, ltb→lt, leb→le, pow_pos, pow_mono, pow-add, shl_lt, Fits, SFits, to_z, of_z}
 use Prim.Native.Nat.{compare}
 use native.Mathlib.Nat.{mul-mul-mul_comm, eq_of_mul-eq-mul_right, div-div-eq-div-mul}
 use lib.Dec.{eqb-suc-zero}
@@ -71,6 +71,29 @@ int_is : (f : Format) (z : ℤ) → of_int f z ≡ round f (below0 z) (nat_abs z
 unfolding of_int
 int_is f (pos n) = refl
 int_is f (negsuc n) = refl
+
+-- so it is the number over 1
+pub whole_is : (f : Format) (z : ℤ) → of_int f z ≡ of_ratio f z 1
+unfolding of_ratio
+whole_is f z = int_is f z
+
+-- a value that is a / c, divided by a float that is the whole number d, is a / (c * d), rounded once
+div_by : (f : Format) (x y : Float) (s : Bool) (a c d : ℕ) → 0 < c → 0 < d → HasValue x s a c → HasValue y false d 1 → div f x y ≡ round f s a (c * d)
+div_by f x nan s a c d C D v w = absurd w
+div_by f x (inf t) s a c d C D v w = absurd w
+div_by f x (fin true m e) s a c d C D v w = absurd (true≢false w.0)
+div_by f x (fin false zero e) s a c d C D v w = absurd (omega (arith, w.1, mul-pos D (down_pos e)))
+div_by f x (fin false (suc q) e) s a c d C D v w = div_value f x s a c q e d C D v (sym (mul-one (suc q * up e)) ∙ w.1)
+
+-- a number that the format holds, divided by one that it holds
+pub div_held : (f : Format) (z : ℤ) (d : ℕ) → nat_abs z ≤ 2 ^ prec f → 0 < d → d ≤ 2 ^ prec f → div f (of_ratio f z 1) (of_int f (pos d)) ≡ of_ratio f z d
+unfolding of_ratio
+div_held f z d h D k =
+    let s = below0 z in
+    let n = nat_abs z in
+    ap (λ (y : Float). div f (round f s n 1) y) (int_is f (pos d))
+    ∙ div_by f (round f s n 1) (round f false d 1) s n 1 d (zero-lt-suc 0) D (round_whole f s n h) (round_whole f false d k)
+    ∙ ap (round f s n) (one-mul d)
 
 -- an integer that the format holds, divided by a whole number
 pub div-small : (f : Format) (z : ℤ) (q : ℕ) (g : ℤ) (d : ℕ) → nat_abs z ≤ 2 ^ prec f → 0 < d → suc q * up g ≡ d * down g → div f (of_int f z) (fin false (suc q) g) ≡ of_ratio f z d
@@ -155,17 +178,10 @@ pub div-unsigned : (f : Format) (w : Width) (x q : ℕ) (g : ℤ) (d : ℕ) → 
     → div f (of_int f (pos x)) (fin false (suc q) g) ≡ of_ratio f (pos x) d
 div-unsigned f w x q g d h k D y = div-small f (pos x) q g d (le_trans (le_of_lt h.fits) (pow_mono (leb→le (bits w) (prec f) k))) (ltb→lt 0 d D) y
 
--- a signed one
-pub div-signed : (f : Format) (w : Width) (x : ℤ) (q : ℕ) (g : ℤ) (d : ℕ) → SFits w x → T (leb (hbits w) (prec f)) → T (ltb 0 d) → suc q * up g ≡ d * down g
-    → div f (of_int f (to_z w (of_z w x))) (fin false (suc q) g) ≡ of_ratio f x d
-div-signed f w x q g d h k D y =
-    ap (λ (z : ℤ). div f (of_int f z) (fin false (suc q) g)) (to_z-of_z w x h)
-    ∙ div-small f x q g d (le_trans (nat_abs-le x h.sfits) (pow_mono (leb→le (hbits w) (prec f) k))) (ltb→lt 0 d D) y
-
--- a signed one by itself
-pub whole-signed : (f : Format) (w : Width) (x : ℤ) → SFits w x → of_int f (to_z w (of_z w x)) ≡ of_ratio f x 1
+-- a signed one by itself, as the caller is handed it
+pub whole_signed : (f : Format) (w : Width) (x : ℤ) → SFits w x → of_int f (to_z w (of_z w x)) ≡ of_ratio f x 1
 unfolding of_ratio
-whole-signed f w x h = ap (of_int f) (to_z-of_z w x h) ∙ int_is f x
+whole_signed f w x h = ap (of_int f) (to_z-of_z w x h) ∙ int_is f x
 
 -- an integer of 32 bits, rounded to y and then divided by a power of two, is rounded once
 pub div-shift : (y : Float) (z : ℤ) (t : ℕ) → y ≡ of_int binary32 z → nat_abs z < 2 ^ 32 → t ≤ 126 → div binary32 y (fin false 1 (pos t)) ≡ of_ratio binary32 z (2 ^ t)

@@ -2,7 +2,9 @@
 ghost use Rattle.std.specs.Prelude.{◌≡◌};
 ghost use Rattle.numbers.specs.Ratio.{entry, exact};
 
-// The value, rounded once, and whether nothing was lost.
+use crate::ratio::{Whole, by};
+
+// The value, rounded once, and whether nothing was lost. No Option: the value holds in both cases.
 #[derive(Clone, Copy)]
 pub struct Entry {
     pub value: f32,
@@ -14,12 +16,9 @@ pub struct Entry {
 pub fn matrix_entry(whole: i16, fraction: u16) -> Entry
     ensures { result ≡ record { value = entry whole fraction; exact = exact whole fraction } }
 {
-    let a = crate::signed::whole_half(whole);
-    let b = crate::ratio::by_65536(fraction);
+    let a = whole.to_f32();
+    let b = by::<65536, _>(fraction);
     let value = a + b;
     let exact = value - a == b;
-    Entry {
-        value: value,
-        exact: exact,
-    }
+    Entry { value, exact }
 }

@@ -2,18 +2,18 @@
 ghost use Rattle.std.specs.Prelude.{◌≡◌};
 ghost use Rattle.std.specs.Float.Ieee.Scale.{finite};
 
+#[tactic(auto, using(crate::proofs::IsFinite::finite_is))]
 pub fn is_finite_f32(x: f32) -> bool
     ensures { result ≡ finite x }
 {
-    let top: f32 = 1.0 / 0.0;
-    x < top && -top < x
+    f32::is_finite(x)
 }
 
+#[tactic(auto, using(crate::proofs::IsFinite::finite_is))]
 pub fn is_finite_f64(x: f64) -> bool
     ensures { result ≡ finite x }
 {
-    let top: f64 = 1.0 / 0.0;
-    x < top && -top < x
+    f64::is_finite(x)
 }
 
 // The same value in the wider format, a NaN included.

@@ -1,4 +1,5 @@
-// The square root of an f32, with no number wider than 32 bits.
+// The square root of an f32, with no number wider than 32 bits. Worked out digit by digit: the library's `f32::sqrt` is the
+// machine's instruction, which no proof reaches.
 ghost use Rattle.std.specs.Prelude.{◌≡◌, ℕ, ◌+◌, ◌*◌, ◌^◌, ◌<◌, ◌≤◌, from_bits};
 ghost use Rattle.std.specs.Float.{binary32};
 ghost use Rattle.numbers.specs.Sqrt.{root_by, rooted, sqrt};
@@ -12,8 +13,7 @@ fn nearest_root(a: u32) -> u32
     let mut root: u32 = 0;
     let mut rest: u32 = 0;
     let mut left: u32 = a;
-    let mut i: u32 = 0;
-    while i < 24 {
+    for _ in 0..24u32 {
         let next = rest * 4 + left / 1073741824;
         left = (left % 1073741824) * 4;
         let odd = root * 4 + 1;
@@ -24,7 +24,6 @@ fn nearest_root(a: u32) -> u32
             rest = next;
             root = root * 2;
         }
-        i += 1;
     }
     if rest > root { root + 1 } else { root }
 }

@@ -6,8 +6,8 @@ pub returns : goal.returns
 returns c =
     let g = c.args in
     let h = c.ranges in
-    let a = c.whole_half-a in
-    let b = c.by_65536-b in
-    let value = entry-is g.whole g.fraction h.whole h.fraction a.result b.result a.ensures b.ensures in
-    let exact = exact-is g.whole g.fraction h.whole h.fraction a.result b.result a.ensures b.ensures in
+    let a = c.to_f32-a in
+    let b = c.by-b in
+    let value = entry-is g.whole g.fraction h.whole h.fraction a.result b.result a.ensures.value b.ensures in
+    let exact = exact-is g.whole g.fraction h.whole h.fraction a.result b.result a.ensures.value b.ensures in
     λ i. record { value = value i; exact = exact i }
