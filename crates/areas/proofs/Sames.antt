@@ -1,78 +1,47 @@
--- A loop that compares a part of an area with an entry: what its turns tell, over the element type and its test of equality. Assumes nothing.
-use Prim.Native.Nat.{ℕ, ◌+◌, ◌-◌, ◌≤◌, ◌<◌}
-use native.Mathlib.Numerals.{add-one}
-use native.Mathlib.Omega.{arith}
-use mathlib.Core.Bool.{Bool, true, false, ◌&&◌, not-eq-not}
-use mathlib.Core.Path.{◌≡◌, refl, sym, ap, ◌∙◌}
+-- What the library's comparison says, as `matches`. Assumes nothing.
+use Prim.Native.Nat.{ℕ, ◌-◌}
+use Rattle.std.specs.Prelude.{min, ℤ}
+use mathlib.Core.Bool.{Bool, true, false}
+use mathlib.Core.Path.{◌≡◌, refl, sym, ◌∙◌}
 use mathlib.Core.List.{List, [], ◌∷◌}
-use lib.Dec.{eqb, eqb-suc-zero}
-use lib.Ieee.{Float, eq, ne}
-use lib.IntN.{ℤ}
-use mir.Syntax.{Width}
-use mir.Val.{SFits, to_z, of_z}
-use mir.Facts.{to_z-of_z}
-use borrow.Author.Tests.{not-true, not-false}
-use lib.ListN.{length, drop, get_or, length-take, length-drop, drop_of_length-le}
-use lib.Seq.{drop-cons, length-take-le, get_or-take, get_or-drop}
+use lib.ListN.{length, take, drop}
+use lib.Pointwise.{pointwise}
+use Rattle.std.specs.Cmp.{IsPartialEquivalence}
+use Rattle.std.proofs.lemmas.List.{drop_min, take_rest}
+use Rattle.std.specs.List.{starts_with}
+use Rattle.std.proofs.lemmas.Bool.Decides.{Decides-int_eq}
+use Rattle.areas.proofs.Tables.{eqbℤ-is}
 use Rattle.areas.specs.Area.{part, matches, eqbℤ}
-use Rattle.areas.proofs.Tables.{matches-length, eqbℤ-is}
+use Rattle.std.specs.Ordering.{int_eq}
 
-module _ {A : Type 0} (p : A → A → Bool) where
-  -- no difference between the area l at a place and the entry vs is found among the first j numbers: what is left of both decides
-  pub record Matching (l : List A) (at : ℕ) (vs : List A) (j : ℕ) : Type 0 where
-    pub left : matches p (part l at (length vs)) vs ≡ matches p (drop j (part l at (length vs))) (drop j vs)
-
-  -- past the area's end there is nothing to compare: only the empty entry is there
-  pub same-past : (l : List A) (at : ℕ) (vs : List A) → length l ≤ at → eqb (length vs) 0 ≡ matches p (part l at (length vs)) vs
+module _ {A : Type 0} where
+  -- the lists compared the other way round
+  pointwise-matches : (p : A → A → Bool) → IsPartialEquivalence p → (xs ys : List A) → pointwise p ys xs ≡ matches p xs ys
   unfolding matches
-  same-past l at [] h = refl
-  same-past l at (v ∷ vs) h = rw (drop_of_length-le l h) (eqb-suc-zero (length vs))
+  pointwise-matches p e [] [] = refl
+  pointwise-matches p e [] (y ∷ ys) = refl
+  pointwise-matches p e (x ∷ xs) [] = refl
+  pointwise-matches p e (x ∷ xs) (y ∷ ys) = rw (e.symm x y, pointwise-matches p e xs ys)
 
-  -- an area that ends before the entry does not hold it
-  pub same-short : (l : List A) (at : ℕ) (vs : List A) → length l - at < length vs → false ≡ matches p (part l at (length vs)) vs
-  same-short l at vs h = sym (matches-length p (part l at (length vs)) vs (λ e. omega (arith, simp (length-take, length-drop) at e)))
+  -- the rest of an area begins with an entry
+  pub same-is : (p : A → A → Bool) → IsPartialEquivalence p → (l : List A) (at s : ℕ) (vs : List A) (r : Bool) → s ≡ min at (length l) → r ≡ starts_with p (take (length l - s) (drop s l)) vs
+      → r ≡ matches p (part l at (length vs)) vs
+  same-is p e l at s vs r hs h =
+      h ∙ rw (take_rest l s, hs, drop_min at l) (pointwise-matches p e (part l at (length vs)) vs)
 
-  -- what is left, by its first number
-  next : (l : List A) (at : ℕ) (vs : List A) (j : ℕ) (d : A) → at + length vs ≤ length l → j < length vs → matches p (drop j (part l at (length vs))) (drop j vs)
-      ≡ p (get_or l (at + j) d) (get_or vs j d) && matches p (drop (j + 1) (part l at (length vs))) (drop (j + 1) vs)
-  unfolding matches
-  next l at vs j d f h =
-      let n : length (part l at (length vs)) ≡ length vs = length-take-le (length vs) (drop at l) (rw length-drop (omega arith)) in
-      rw (drop-cons (part l at (length vs)) j d (omega arith), drop-cons vs j d h, get_or-take, get_or-drop, add-one)
+-- the `==` of numbers with a sign says what eqbℤ says
+int_eq-is : (x y : ℤ) → int_eq x y ≡ eqbℤ x y
+int_eq-is x y = both_ways _ _ (λ h. (eqbℤ-is x y).1 ((Decides-int_eq x y).0 h)) (λ h. (Decides-int_eq x y).1 ((eqbℤ-is x y).0 h))
+  where
+    both_ways : (a b : Bool) → (a ≡ true → b ≡ true) → (b ≡ true → a ≡ true) → a ≡ b
+    both_ways true b f g = sym (f refl)
+    both_ways false true f g = g refl
+    both_ways false false f g = refl
 
-module _ {A : Type 0} {p : A → A → Bool} where
-  -- nothing is compared yet
-  pub matching-none : {l : List A} {at : ℕ} {vs : List A} → Matching p l at vs 0
-  matching-none = record { left = refl }
-
-  -- one more number is equal
-  pub matching-more : {l : List A} {at : ℕ} {vs : List A} {j : ℕ} (d : A) → Matching p l at vs j → at + length vs ≤ length l → j < length vs → p (get_or l (at + j) d) (get_or vs j d) ≡ true → Matching p l at vs (j + 1)
-  matching-more {l} {at} {vs} {j} d a f h e = record { left = rw (a.left, next p l at vs j d f h, e) }
-
-  -- a number differs
-  pub matching-differs : {l : List A} {at : ℕ} {vs : List A} {j : ℕ} (d : A) → Matching p l at vs j → at + length vs ≤ length l → j < length vs → p (get_or l (at + j) d) (get_or vs j d) ≡ false → false ≡ matches p (part l at (length vs)) vs
-  matching-differs {l} {at} {vs} {j} d a f h e = rw (a.left, next p l at vs j d f h, e)
-
-  -- no number differs
-  pub matching-all : {l : List A} {at : ℕ} {vs : List A} {j : ℕ} → Matching p l at vs j → length vs ≤ j → true ≡ matches p (part l at (length vs)) vs
-  unfolding matches
-  matching-all {l} {at} {vs} {j} a h =
-      rw (a.left, drop_of_length-le vs h, drop_of_length-le (part l at (length vs)) {i = j} (rw length-take (omega arith)))
-
--- floats that do not differ are equal
-pub not-differ : (x y : Float) → ne x y ≡ false → eq x y ≡ true
-unfolding ne
-not-differ x y h = not-false (eq x y) h
-
--- floats that differ are not equal
-pub differ : (x y : Float) → ne x y ≡ true → eq x y ≡ false
-unfolding ne
-differ x y h = not-true (eq x y) h
-
--- two numbers with a sign that have the same bits are the same
-pub bits-same : (w : Width) (x y : ℤ) → SFits w x → SFits w y → of_z w x ≡ of_z w y → eqbℤ x y ≡ true
-bits-same w x y f g e = (eqbℤ-is x y).1 (sym (to_z-of_z f) ∙ ap (to_z w) e ∙ to_z-of_z g)
-
--- two numbers with a sign whose bits differ are not the same
-pub bits-differ : (w : Width) (x y : ℤ) → (of_z w x ≡ of_z w y → ⊥) → eqbℤ x y ≡ false
-bits-differ w x y h = not-eq-not.0 (λ e. h (ap (of_z w) ((eqbℤ-is x y).0 e)))
+-- so are lists of them
+pub matches-int : (xs ys : List ℤ) → matches int_eq xs ys ≡ matches eqbℤ xs ys
+unfolding matches
+matches-int [] [] = refl
+matches-int [] (y ∷ ys) = refl
+matches-int (x ∷ xs) [] = refl
+matches-int (x ∷ xs) (y ∷ ys) = rw (int_eq-is x y, matches-int xs ys)

@@ -1,16 +1,14 @@
 -- The first table that does not fit, test by test. Assumes nothing.
-use mathlib.Core.Path.{◌≡◌, refl, sym, ap, ◌∙◌}
-use Prim.Native.Nat.{ℕ, ◌+◌, ◌-◌, ◌≤◌, ◌<◌}
-use native.Mathlib.Omega.{arith}
-use mathlib.Core.Bool.{Bool, true, false, ◌&&◌}
+use mathlib.Core.Path.{◌≡◌, refl, sym, ◌∙◌}
+use Prim.Native.Nat.{ℕ, ◌+◌}
+use mathlib.Core.Bool.{Bool, true, false}
 use mathlib.Core.List.{List, [], ◌∷◌}
 use lib.Dec.{leb}
-use borrow.Author.Tests.{not-true, not-false, le-leb, lt-leb}
+use borrow.Author.Tests.{not-true, not-false}
 use Rattle.numbers.specs.Choice.{unless}
 use Rattle.decide.specs.declared.judge.Fill.{Fill}
 use Rattle.decide.specs.Judge.{Lent}
 use Rattle.decide.specs.Steps.{first_short, fill_of, short_of}
-use Rattle.decide.proofs.Rules.{reaches-in}
 
 -- the table k does not fit: it is the first
 pub short-here : (k : ℕ) (t : Fill) (ts : List Lent) (r : Bool) → r ≡ short_of t → r ≡ true → k ≡ first_short (fill_of k t ∷ ts)
@@ -21,16 +19,6 @@ short-here k t ts r e h = rw (not-true (leb (t.used + t.more) t.room) (sym e ∙
 pub short-after : (k : ℕ) (t : Fill) (ts : List Lent) (r : Bool) (n : ℕ) → r ≡ short_of t → r ≡ false → n ≡ first_short ts → n ≡ first_short (fill_of k t ∷ ts)
 unfolding first_short unless
 short-after k t ts r n e h m = rw (not-false (leb (t.used + t.more) t.room) (sym e ∙ h)) m
-
--- slots counted from the first on are there, or are not
-pub there : (slots first count : ℕ) → count ≤ slots → leb first (slots - count) ≡ (leb count slots && leb (first + count) slots)
-there slots first count h = rw (le-leb count slots h) (reaches-in slots count first h ∙ ap (λ (n : ℕ). leb n slots) (swap count first))
-  where
-    swap : (a b : ℕ) → a + b ≡ b + a
-    swap a b = omega arith
-
-pub not_there : (slots first count : ℕ) → slots < count → false ≡ (leb count slots && leb (first + count) slots)
-not_there slots first count h = rw (lt-leb count slots h)
 
 -- no table is left
 pub short_none : 0 ≡ first_short []

@@ -1,17 +1,11 @@
 -- Slots of three numbers, by the tests that the code makes. Assumes nothing.
 use mathlib.Core.Path.{◌≡◌}
-use Prim.Native.Nat.{ℕ, ◌*◌, ◌≤◌, ◌<◌}
+use Prim.Native.Nat.{ℕ, ◌≤◌}
 use mathlib.Core.List.{List}
 use lib.Ieee.{Float}
-use borrow.Author.Tests.{lt-ltb, le-ltb}
+use borrow.Author.Tests.{le-ltb}
 use Rattle.numbers.specs.Choice.{pick}
-use Rattle.areas.specs.Area.{put}
 use Rattle.decide.specs.Lights.{slotted}
-
--- a slot that there is takes its numbers
-pub slot-in : (n k : ℕ) (l v : List Float) → k < n → put l (3 * k) v ≡ slotted n l k v
-unfolding slotted pick
-slot-in n k l v h = rw (lt-ltb k n h)
 
 -- a slot above stores nothing
 pub slot-above : (n k : ℕ) (l v : List Float) → n ≤ k → slotted n l k v ≡ l

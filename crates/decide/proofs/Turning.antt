@@ -2,11 +2,11 @@
 use mathlib.Core.Path.{◌≡◌, refl, sym, subst}
 use Prim.Native.Nat.{ℕ, ◌+◌, ◌≤◌, ◌<◌}
 use native.Mathlib.Omega.{arith}
-use mathlib.Core.Bool.{Bool, true, false, ◌&&◌}
+use mathlib.Core.Bool.{Bool, true, false, ◌&&◌, and-eq-true_iff}
 use lib.Dec.{ltb}
+use borrow.Author.Tests.{ltb-true}
 use Rattle.numbers.specs.Choice.{pick}
 use Rattle.decide.specs.Stack.{pushed, popped}
-use Rattle.decide.proofs.Rules.{push-room}
 
 -- a depth of the stack
 abbrev InStack : ℕ → Type 0
@@ -17,7 +17,7 @@ unfolding pushed pick
 pushed-in push d h = go (push && ltb d 32) refl
   where
     go : (b : Bool) → push && ltb d 32 ≡ b → InStack (pick b (d + 1) d)
-    go true e = let l : d < 32 = push-room push d e in omega arith
+    go true e = let l : d < 32 = ltb-true d 32 ((and-eq-true_iff push (ltb d 32)).0 e).1 in omega arith
     go false e = h
 
 pub pushed-low : (push : Bool) (d r : ℕ) → r ≡ pushed push d → InStack d → 1 ≤ r

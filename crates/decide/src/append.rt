@@ -1,14 +1,14 @@
 // An entry appended to a table, unless the last entry compares equal to it.
-ghost use Rattle.std.specs.Prelude.{◌≡◌, length, replicate, leb, ◌&&◌, [], ◌∷◌, ◌≤◌};
+ghost use Rattle.std.specs.Prelude.{◌≡◌, length, replicate, leb, ◌&&◌, [], ◌∷◌, ◌≤◌, ◌<◌, ◌^◌};
 ghost use Rattle.std.specs.Float.Ieee.{eq};
 ghost use Rattle.numbers.specs.Choice.{pick, unless};
 ghost use Rattle.areas.specs.Area.{entries, matches, room, put};
-ghost use Rattle.areas.specs.Widths.{most, matrix_width, viewport_width, scale_width, fog_width};
+ghost use Rattle.areas.specs.Widths.{most, matrix_width, viewport_width};
 ghost use Rattle.matrix.specs.Math.{zero, identity, laid};
 ghost use Rattle.decide.specs.Append.{final, only_if};
 ghost use Rattle.decide.specs.Steps.{Ended, ended, Put, put_by};
 
-use areas::widths::{FOG_WIDTH, MATRIX_WIDTH, SCALE_WIDTH, VIEWPORT_WIDTH};
+use areas::widths::{MATRIX_WIDTH, VIEWPORT_WIDTH};
 
 // What became of the entry: it was there last, or it was appended, or there was no room for it.
 #[derive(Clone, Copy)]
@@ -27,7 +27,7 @@ pub fn last_is(floats: &[f32], width: u32, used: u32, entry: &[f32]) -> bool
     if used == 0 {
         return entry.len() == 0;
     }
-    areas::same_f32(floats, areas::place(width, used - 1), entry)
+    areas::same(floats, areas::place(width, used - 1), entry)
 }
 
 // `entry` goes to the end of the table. Asks for an entry of the table's width, as above.
@@ -41,55 +41,22 @@ pub fn append_f32(floats: &mut [f32], width: u32, used: u32, entry: &[f32]) -> A
     if !crate::judge::holds(used, 1, areas::room_of(width, floats.len())) {
         return Append::Full;
     }
-    areas::put_f32(floats, areas::place(width, used), entry);
+    areas::put(floats, areas::place(width, used), entry);
     Append::Grew
 }
 
-// `entry` appended where `need` says so: the count then. Asks for a count that does not wrap, which the state's judge has seen to.
-pub fn put_f32_if(need: bool, floats: &mut [f32], width: u32, used: u32, entry: &[f32]) -> u32
-    requires { used ≤ most }
-    ensures { record { count = result; area = floats.new } ≡ put_by width used (only_if need (entry.now ∷ [])) floats.old }
+// `entry` appended where `need` says so: the count then. The width is the entry's, by its type. Asks for a count that does not wrap,
+// which the state's judge has seen to, and for a width of 32 bits, as every table's is.
+pub fn put_if<T: Copy, const W: usize>(need: bool, area: &mut [T], used: u32, entry: &[T; W]) -> u32
+    requires used { used ≤ most }
+    requires width { W < 2 ^ 32 }
+    ensures { record { count = result; area = area.new } ≡ put_by W used (only_if need (entry.now ∷ [])) area.old }
 {
     if !need {
         return used;
     }
-    areas::put_f32(floats, areas::place(width, used), entry);
+    areas::put(area, areas::place(W as u32, used), entry);
     used + 1
-}
-
-// The same for i16.
-pub fn put_i16_if(need: bool, halves: &mut [i16], width: u32, used: u32, entry: &[i16]) -> u32
-    requires { used ≤ most }
-    ensures { record { count = result; area = halves.new } ≡ put_by width used (only_if need (entry.now ∷ [])) halves.old }
-{
-    if !need {
-        return used;
-    }
-    areas::put_i16(halves, areas::place(width, used), entry);
-    used + 1
-}
-
-// A matrix, a scale entry and a fog pair, each appended to its table where `need` says so.
-pub fn put_matrix_if(need: bool, matrices: &mut [f32], used: u32, entry: [f32; 16]) -> u32
-    requires { used ≤ most }
-    ensures { record { count = result; area = matrices.new } ≡ put_by matrix_width used (only_if need (entry ∷ [])) matrices.old }
-{
-    put_f32_if(need, matrices, MATRIX_WIDTH, used, &entry)
-}
-
-pub fn put_scales_if(need: bool, scales: &mut [f32], used: u32, entry: [f32; 4]) -> u32
-    requires { used ≤ most }
-    ensures { record { count = result; area = scales.new } ≡ put_by scale_width used (only_if need (entry ∷ [])) scales.old }
-{
-    put_f32_if(need, scales, SCALE_WIDTH, used, &entry)
-}
-
-pub fn put_fog_if(need: bool, fogs: &mut [i16], used: u32, multiplier: i16, offset: i16) -> u32
-    requires { used ≤ most }
-    ensures { record { count = result; area = fogs.new } ≡ put_by fog_width used (only_if need ((multiplier ∷ offset ∷ []) ∷ [])) fogs.old }
-{
-    let pair = [multiplier, offset];
-    put_i16_if(need, fogs, FOG_WIDTH, used, &pair)
 }
 
 // Identity as first matrix and zeros as first viewport, where both areas have room: 0, or the number of the first table that has none.
@@ -106,7 +73,7 @@ pub fn put_first(matrices: &mut [f32], viewports: &mut [f32]) -> u32
     }
     let one = matrix::math::to_flat(matrix::math::identity());
     let none = [0.0f32; 6];
-    areas::put_f32(matrices, 0, &one);
-    areas::put_f32(viewports, 0, &none);
+    areas::put(matrices, 0, &one);
+    areas::put(viewports, 0, &none);
     0
 }

@@ -7,7 +7,7 @@ ghost use Rattle.decide.specs.Steps.{first_short, fill_of, short_of};
 pub fn reaches(len: usize, at: usize, need: usize) -> bool
     ensures { result ≡ leb (at + need) len }
 {
-    if at <= len { need <= len - at } else { false }
+    len.checked_sub(at).is_some_and(|left| need <= left)
 }
 
 // Whether a table with so much room holds `used` entries and `more`.
@@ -21,18 +21,14 @@ pub fn holds(used: u32, more: u32, room: usize) -> bool
 pub fn has_flag(v: u32, x: u32) -> bool
     ensures { result ≡ flag v x }
 {
-    if v == 0 { false } else { x / v % 2 == 1 }
+    x.checked_div(v).is_some_and(|n| n % 2 == 1)
 }
 
 // Whether slots `first` to `first + count - 1` are among so many.
 pub fn slots_there(slots: u32, first: u32, count: u32) -> bool
     ensures { result ≡ leb count slots && leb (first + count) slots }
 {
-    if count <= slots {
-        first <= slots - count
-    } else {
-        false
-    }
+    slots.checked_sub(count).is_some_and(|last| first <= last)
 }
 
 // A table as refusals 8 and 9 see it: entries in use, entries to be appended, room.

@@ -6,15 +6,15 @@ ghost use Rattle.decide.specs.Lights.{light_number, slotted};
 pub fn light_number(bytes: u32) -> u32
     ensures { result ≡ light_number bytes }
 {
-    let n = bytes / 24;
-    if n < 7 { n } else { 7 }
+    (bytes / 24).min(7)
 }
 
 // `three` written as the numbers of slot `slot` of `slots`; a slot above stores nothing.
+#[tactic(auto, unfolding(crate::specs::Lights::slotted, numbers::specs::Choice::pick))]
 pub fn put_slot(floats: &mut [f32], slots: u32, slot: u32, three: &[f32])
     ensures { floats.new ≡ slotted slots floats.old slot three.now }
 {
     if slot < slots {
-        areas::put_f32(floats, 3 * (slot as usize), three);
+        areas::put(floats, 3 * (slot as usize), three);
     }
 }

@@ -3,6 +3,7 @@ ghost use Rattle.std.specs.Prelude.{◌≡◌, ◌-◌};
 ghost use Rattle.numbers.specs.Choice.{pick};
 
 // x where b holds, else y.
+#[tactic(auto, unfolding(numbers::specs::Choice::pick))]
 pub fn if_else(b: bool, x: u32, y: u32) -> u32
     ensures { result ≡ pick b x y }
 {
@@ -13,5 +14,5 @@ pub fn if_else(b: bool, x: u32, y: u32) -> u32
 pub fn less_one(n: u32) -> u32
     ensures { result ≡ n - 1 }
 {
-    if n == 0 { 0 } else { n - 1 }
+    n.saturating_sub(1)
 }

@@ -11,6 +11,7 @@ use crate::family::Family;
 use areas::widths::MATRIX_WIDTH;
 
 // Data, or data times what stood there.
+#[tactic(auto, unfolding(crate::specs::Stack::made, numbers::specs::Choice::pick))]
 pub fn made_of(load: bool, m: [[f32; 4]; 4], old: [[f32; 4]; 4]) -> [[f32; 4]; 4]
     ensures { result ≡ made load m old }
 {
@@ -18,6 +19,7 @@ pub fn made_of(load: bool, m: [[f32; 4]; 4], old: [[f32; 4]; 4]) -> [[f32; 4]; 4
 }
 
 // The depth after a push, which is dropped from 32 on.
+#[tactic(auto, unfolding(crate::specs::Stack::pushed, numbers::specs::Choice::pick))]
 pub fn pushed_depth(push: bool, depth: u32) -> u32
     ensures { result ≡ pushed push depth }
 {
@@ -29,13 +31,15 @@ pub fn pushed_depth(push: bool, depth: u32) -> u32
 }
 
 // The depth after `count` pops, never below 1.
+#[tactic(auto, unfolding(crate::specs::Stack::popped))]
 pub fn popped_depth(count: u32, depth: u32) -> u32
     ensures { result ≡ popped count depth }
 {
-    if count < depth { depth - count } else { 1 }
+    depth.saturating_sub(count).max(1)
 }
 
 // The matrix on top of a stack of so many. Asks for a depth of the stack, since every other is refused before it is read.
+#[tactic(auto, unfolding(matrix::specs::Math::rows))]
 fn top_of(s: &[f32; 512], depth: u32) -> [[f32; 4]; 4]
     requires { (1 ≤ depth) × (depth ≤ 32) }
     ensures { result ≡ rows s.now (matrix_width * (depth - 1)) }
@@ -66,14 +70,7 @@ pub fn top_at(s: &[f32; 512], depth: u32) -> [[f32; 4]; 4]
     top_of(s, depth)
 }
 
-// A matrix taken: the depth and the projection then.
-#[derive(Clone, Copy)]
-pub struct Turned {
-    pub depth: u32,
-    pub projection: [f32; 16],
-}
-
-// The data m taken as projection, or as top of the stack. Asks for a depth in its range.
+// The data m taken as projection, or as top of the stack: the depth and the projection then. Asks for a depth in its range.
 fn turn(
     push: bool,
     load: bool,
@@ -82,25 +79,19 @@ fn turn(
     stack: &mut [f32; 512],
     projection: [f32; 16],
     depth: u32,
-) -> Turned
+) -> (u32, [f32; 16])
     requires { (1 ≤ depth) × (depth ≤ 32) }
-    ensures { (result.depth ≡ pick projecting depth (pushed push depth)) × (result.projection ≡ pick projecting (laid (made load m (rows projection 0))) projection) × (stack.new ≡ pick projecting stack.old (put stack.old (matrix_width * (pushed push depth - 1)) (laid (made load m (rows stack.old (matrix_width * (depth - 1))))))) }
+    ensures { (result.0 ≡ pick projecting depth (pushed push depth)) × (result.1 ≡ pick projecting (laid (made load m (rows projection 0))) projection) × (stack.new ≡ pick projecting stack.old (put stack.old (matrix_width * (pushed push depth - 1)) (laid (made load m (rows stack.old (matrix_width * (depth - 1))))))) }
 {
     if projecting {
         let made = made_of(load, m, matrix::math::from_flat(projection));
-        return Turned {
-            depth: depth,
-            projection: matrix::math::to_flat(made),
-        };
+        return (depth, matrix::math::to_flat(made));
     }
     let made = made_of(load, m, top_at(stack, depth));
     let d = pushed_depth(push, depth);
     let flat = matrix::math::to_flat(made);
-    areas::put_f32(stack, 16 * ((d - 1) as usize), &flat);
-    Turned {
-        depth: d,
-        projection: projection,
-    }
+    areas::put(stack, 16 * ((d - 1) as usize), &flat);
+    (d, projection)
 }
 
 // A top of the stack times a projection, flat.
@@ -136,17 +127,17 @@ pub fn take(
     let push = crate::judge::has_flag(family.push, flags);
     let load = crate::judge::has_flag(family.load, flags);
     let projecting = crate::judge::has_flag(family.projection, flags);
-    let t = turn(push, load, projecting, m, stack, projection, depth);
-    let p = t.projection;
-    let product = product_of(top_at(stack, t.depth), p);
+    let (d, p) = turn(push, load, projecting, m, stack, projection, depth);
+    let product = product_of(top_at(stack, d), p);
     Taken {
-        depth: t.depth,
+        depth: d,
         projection: p,
-        product: product,
+        product,
     }
 }
 
 // Whether the lighting bit differs between two words.
+#[tactic(auto, unfolding(crate::specs::Stack::relit))]
 pub fn relights(f: Family, old: u32, new: u32) -> bool
     ensures { result ≡ relit f old new }
 {

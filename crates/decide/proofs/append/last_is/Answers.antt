@@ -6,4 +6,4 @@ pub returns-then-used-eq0 : goal.returns-then-used-eq0
 returns-then-used-eq0 c = final-none _ _ _ _ c.if-used-eq0.true
 
 pub returns : goal.returns
-returns c = final-same _ _ _ _ _ _ (search rules) c.requires c.place.ensures c.same_f32.ensures
+returns c = final-same _ _ _ _ _ _ (search rules) c.requires c.place.ensures c.same.ensures

@@ -25,6 +25,6 @@ returns c =
     let f = some-room _ _ _ c.room_of-2.ensures c.if-room_of-lt1-2.false in
     record {
       short = rw (e, f);
-      matrices = rw (e, f) (c.put_f32.ensures ∙ rw (c.to_flat-one.ensures, c.identity.ensures));
-      viewports = rw (e, f) c.put_f32-2.ensures;
+      matrices = rw (e, f) (c.put.ensures ∙ rw (c.to_flat-one.ensures, c.identity.ensures));
+      viewports = rw (e, f) c.put-2.ensures;
     }

@@ -15,4 +15,4 @@ pub returns : goal.returns
 unfolding pick
 returns c =
     rw c.if-projecting.false
-    (c.pushed_depth-d.ensures, refl, c.put_f32.ensures ∙ rw (c.to_flat-flat.ensures, c.made_of-made-2.ensures, c.top_at.ensures, c.pushed_depth-d.ensures))
+    (c.pushed_depth-d.ensures, refl, c.put.ensures ∙ rw (c.to_flat-flat.ensures, c.made_of-made-2.ensures, c.top_at.ensures, c.pushed_depth-d.ensures))
