@@ -1,2 +1,3 @@
 pub mod Believe
 pub mod Turns
+pub mod Parts

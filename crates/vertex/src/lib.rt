@@ -9,10 +9,6 @@ ghost use Rattle.layout.specs.Layout.{vertex_at};
 ghost use Rattle.vertex.specs.Vertices.{floats_of, words_of, slot_of};
 ghost use Rattle.vertex.specs.Steps.{RowsFit, Laid, Marked};
 
-use areas::widths::{
-    COLOUR_WORD, FOG_WORD, LIGHT_WORD, LIGHTS_WORD, LOOKAT_WORD, MATRIX_WORD, SCALE_WORD,
-    TEXGEN_WORD, VIEWPORT_WORD,
-};
 use layout::records::Vertex;
 
 // How many numbers a row has in each of its two areas.
@@ -36,13 +32,11 @@ pub struct Shared {
     pub ztranslation: f32,
 }
 
-// What a slot gets: its clip code and its screen z, each with a mark that says whether there is one.
+// What a slot gets: its clip code and its screen z, where there is one.
 #[derive(Clone, Copy)]
 pub struct Slot {
-    pub coded: bool,
-    pub code: u8,
-    pub deep: bool,
-    pub z: f64,
+    pub code: Option<u8>,
+    pub z: Option<f64>,
 }
 
 // Stores the nine floats of the row of `v` from place `at` on, the screen numbers 0. Asks for their room.
@@ -50,17 +44,9 @@ fn store_floats(floats: &mut [f32], at: usize, v: Vertex)
     requires { at + float_width ≤ length floats.old }
     ensures { floats.new ≡ put floats.old at (floats_of v) }
 {
-    let pos = v.pos;
-    let st = v.st;
-    floats[at] = pos[0];
-    floats[at + 1] = pos[1];
-    floats[at + 2] = pos[2];
-    floats[at + 3] = st[0];
-    floats[at + 4] = st[1];
-    floats[at + 5] = 0.0;
-    floats[at + 6] = 0.0;
-    floats[at + 7] = 0.0;
-    floats[at + 8] = 0.0;
+    let [x, y, z] = v.pos;
+    let [s, t] = v.st;
+    floats[at..at + FLOATS].copy_from_slice(&[x, y, z, s, t, 0.0, 0.0, 0.0, 0.0]);
 }
 
 // Stores the row's ten words likewise: what the load's rows share and the colour word of `v`, the modify flags 0.
@@ -68,32 +54,20 @@ fn store_words(words: &mut [u32], at: usize, e: Shared, v: Vertex)
     requires { at + word_width ≤ length words.old }
     ensures { words.new ≡ put words.old at (words_of e v) }
 {
-    words[at] = 0;
-    words[at + MATRIX_WORD] = e.matrix;
-    words[at + VIEWPORT_WORD] = e.viewport;
-    words[at + SCALE_WORD] = e.scale;
-    words[at + COLOUR_WORD] = v.colour;
-    words[at + LIGHT_WORD] = e.light;
-    words[at + LIGHTS_WORD] = e.lights;
-    words[at + TEXGEN_WORD] = e.texgen;
-    words[at + FOG_WORD] = e.fog;
-    words[at + LOOKAT_WORD] = e.lookat;
+    words[at..at + WORDS].copy_from_slice(&[
+        0, e.matrix, e.viewport, e.scale, v.colour, e.light, e.lights, e.texgen, e.fog, e.lookat,
+    ]);
 }
 
 // What the slot of `v` gets, its position taken through m.
 fn slot_of(m: [[f32; 4]; 4], e: Shared, v: Vertex) -> Slot
     ensures { result ≡ slot_of m e v }
 {
-    let pos = v.pos;
-    let p = matrix::math::mul_row_vec4([pos[0], pos[1], pos[2], 1.0], m);
-    let c = matrix::clip::clip_code(p);
-    let d = matrix::clip::screen_z(p, c.some, e.zscale, e.ztranslation);
-    Slot {
-        coded: c.some,
-        code: c.bits,
-        deep: d.some,
-        z: d.z,
-    }
+    let [x, y, z] = v.pos;
+    let p = matrix::math::mul_row_vec4([x, y, z, 1.0], m);
+    let code = matrix::clip::clip_code(p);
+    let depth = matrix::clip::screen_z(p, code.is_some(), e.zscale, e.ztranslation);
+    Slot { code, z: depth }
 }
 
 // The vertex of 16 bytes from `at` on laid down as row `row`: what its slot gets. Asks for the row's room and for the
@@ -147,9 +121,9 @@ pub fn fill(
         ever[k] = true;
         loaded[k] = true;
         drawn[k] = false;
-        coded[k] = s.coded;
-        code[k] = s.code;
-        deep[k] = s.deep;
-        z[k] = s.z;
+        coded[k] = s.code.is_some();
+        code[k] = s.code.unwrap_or(0);
+        deep[k] = s.z.is_some();
+        z[k] = s.z.unwrap_or(0.0);
     }
 }
