@@ -1,3 +1,2 @@
 pub mod Believe
 pub mod Turns
-pub mod Parts

@@ -9,6 +9,10 @@ ghost use Rattle.layout.specs.Layout.{vertex_at};
 ghost use Rattle.vertex.specs.Vertices.{floats_of, words_of, slot_of};
 ghost use Rattle.vertex.specs.Steps.{RowsFit, Laid, Marked};
 
+use areas::widths::{
+    COLOUR_WORD, FOG_WORD, LIGHT_WORD, LIGHTS_WORD, LOOKAT_WORD, MATRIX_WORD, SCALE_WORD,
+    TEXGEN_WORD, VIEWPORT_WORD,
+};
 use layout::records::Vertex;
 
 // How many numbers a row has in each of its two areas.
@@ -39,14 +43,23 @@ pub struct Slot {
     pub z: Option<f64>,
 }
 
-// Stores the nine floats of the row of `v` from place `at` on, the screen numbers 0. Asks for their room.
+// Stores the nine floats of the row of `v` from place `at` on, the screen numbers 0. Asks for their room. Number by number,
+// here and below: a row made as an array and copied to its place takes a load half as long again.
 fn store_floats(floats: &mut [f32], at: usize, v: Vertex)
     requires { at + float_width ≤ length floats.old }
     ensures { floats.new ≡ put floats.old at (floats_of v) }
 {
     let [x, y, z] = v.pos;
     let [s, t] = v.st;
-    floats[at..at + FLOATS].copy_from_slice(&[x, y, z, s, t, 0.0, 0.0, 0.0, 0.0]);
+    floats[at] = x;
+    floats[at + 1] = y;
+    floats[at + 2] = z;
+    floats[at + 3] = s;
+    floats[at + 4] = t;
+    floats[at + 5] = 0.0;
+    floats[at + 6] = 0.0;
+    floats[at + 7] = 0.0;
+    floats[at + 8] = 0.0;
 }
 
 // Stores the row's ten words likewise: what the load's rows share and the colour word of `v`, the modify flags 0.
@@ -54,9 +67,16 @@ fn store_words(words: &mut [u32], at: usize, e: Shared, v: Vertex)
     requires { at + word_width ≤ length words.old }
     ensures { words.new ≡ put words.old at (words_of e v) }
 {
-    words[at..at + WORDS].copy_from_slice(&[
-        0, e.matrix, e.viewport, e.scale, v.colour, e.light, e.lights, e.texgen, e.fog, e.lookat,
-    ]);
+    words[at] = 0;
+    words[at + MATRIX_WORD] = e.matrix;
+    words[at + VIEWPORT_WORD] = e.viewport;
+    words[at + SCALE_WORD] = e.scale;
+    words[at + COLOUR_WORD] = v.colour;
+    words[at + LIGHT_WORD] = e.light;
+    words[at + LIGHTS_WORD] = e.lights;
+    words[at + TEXGEN_WORD] = e.texgen;
+    words[at + FOG_WORD] = e.fog;
+    words[at + LOOKAT_WORD] = e.lookat;
 }
 
 // What the slot of `v` gets, its position taken through m.
