@@ -17,9 +17,9 @@ use denote.Array.{Array, each}
 use denote.Floats.{FloatOf}
 use denote.Laws.{Is}
 use denote.Shadow.{shadow}
+use Rattle.std.specs.Prelude.{None, is_some}
+use Rattle.std.specs.Bool.{then_some}
 use Rattle.numbers.specs.Choice.{pick}
-use Rattle.matrix.specs.declared.clip.ClipCode.{ClipCode}
-use Rattle.matrix.specs.declared.clip.ScreenZ.{ScreenZ}
 use Rattle.matrix.specs.Math
 use Rattle.matrix.specs.Math.{at, row, cell, identity, column, row_times, times, four, rows, laid}
 use Rattle.matrix.specs.Clip.{bit_of, bits_of, all_finite, code_of, screen_of, depth_of}
@@ -207,35 +207,39 @@ bits-test p k = rw bits-weigh (weigh-bit (tests p) k)
 
 -- ---- where there is a code, and a screen z
 
--- a record made by a test says what the test said
-made : {A : Type 0} (some : A → Bool) (b : Bool) (x y : A) → some x ≡ true → some y ≡ false → some (pick b x y) ≡ b
-unfolding pick
-made some true x y p q = p
-made some false x y p q = q
+-- what a test lets through is there exactly where the test holds
+let-through : {A : Type 0} (b : Bool) (x : A) → is_some (then_some b x) ≡ b
+let-through true x = refl
+let-through false x = refl
+
+-- what is let through by a test that fails is not there
+let-none : {A : Type 0} (b : Bool) (x : A) → b ≡ false → then_some b x ≡ None
+let-none b x e = rw e
 
 -- there is a code exactly where all four numbers are finite
-pub code-some : (p : List Float) → (code_of p).some ≡ all_finite p
+pub code-some : (p : List Float) → is_some (code_of p) ≡ all_finite p
 unfolding code_of
-code-some p = made (λ (c : ClipCode). c.some) (all_finite p) _ _ refl refl
+code-some p = let-through (all_finite p) (bits_of p)
 
 -- no code where one number is not finite
-pub no_code : (p : List Float) (k : ℕ) → k < 4 → finite (at p k) ≡ false → (code_of p).some ≡ false
-no_code p k h e = code-some p ∙ not-all (λ (i : ℕ). finite (at p i)) k h e
+pub no_code : (p : List Float) (k : ℕ) → k < 4 → finite (at p k) ≡ false → code_of p ≡ None
+unfolding code_of
+no_code p k h e = let-none (all_finite p) (bits_of p) (not-all (λ (i : ℕ). finite (at p i)) k h e)
 
 -- no code where one number is a NaN
-pub nan-no-code : (p : List Float) (k : ℕ) → k < 4 → at p k ≡ nan → (code_of p).some ≡ false
+pub nan-no-code : (p : List Float) (k : ℕ) → k < 4 → at p k ≡ nan → code_of p ≡ None
 nan-no-code p k h e = no_code p k h (ap finite e)
 
 -- there is a screen z exactly where there is a code, w is not zero, and the screen z is finite
 pub depth-some : (p : List Float) (coded : Bool) (scale translation : Float)
-    → (depth_of p coded scale translation).some ≡ (coded && ne (at p 3) Math.zero && finite (screen_of p scale translation))
+    → is_some (depth_of p coded scale translation) ≡ (coded && ne (at p 3) Math.zero && finite (screen_of p scale translation))
 unfolding depth_of
-depth-some p coded scale translation =
-    made (λ (c : ScreenZ). c.some) (coded && ne (at p 3) Math.zero && finite (screen_of p scale translation)) _ _ refl refl
+depth-some p coded scale translation = let-through (coded && ne (at p 3) Math.zero && finite (screen_of p scale translation)) _
 
 -- no screen z without a code
-pub uncoded-no-depth : (p : List Float) (scale translation : Float) → (depth_of p false scale translation).some ≡ false
-uncoded-no-depth p scale translation = depth-some p false scale translation
+pub uncoded-no-depth : (p : List Float) (scale translation : Float) → depth_of p false scale translation ≡ None
+unfolding depth_of
+uncoded-no-depth p scale translation = refl
 
 -- either zero equals 0
 same-zero : (s : Bool) → ne (fin s 0 (pos 0)) Math.zero ≡ false
@@ -244,5 +248,6 @@ same-zero true = refl
 same-zero false = refl
 
 -- no screen z where w is zero, of either sign
-pub zero-no-depth : (p : List Float) (s coded : Bool) (scale translation : Float) → at p 3 ≡ fin s 0 (pos 0) → (depth_of p coded scale translation).some ≡ false
-zero-no-depth p s coded scale translation e = depth-some p coded scale translation ∙ simp (e, same-zero, and-false)
+pub zero-no-depth : (p : List Float) (s coded : Bool) (scale translation : Float) → at p 3 ≡ fin s 0 (pos 0) → depth_of p coded scale translation ≡ None
+unfolding depth_of
+zero-no-depth p s coded scale translation e = let-none _ _ (simp (e, same-zero, and-false))

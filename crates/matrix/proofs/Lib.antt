@@ -1,3 +1,4 @@
 pub mod Believe
 pub mod Constants
 pub mod Bits
+pub mod Finite

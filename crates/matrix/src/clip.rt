@@ -2,26 +2,13 @@
 ghost use Rattle.std.specs.Prelude.{◌≡◌, ◌≤◌};
 ghost use Rattle.matrix.specs.Clip.{bit_of, bits_of, all_finite, code_of, screen_of, depth_of};
 
-// Bits 0 to 5: x < -w, x > w, y < -w, y > w, z < -w, z > w. `some` is false, and `bits` 0, where there is no code.
-#[derive(Clone, Copy)]
-pub struct ClipCode {
-    pub some: bool,
-    pub bits: u8,
-}
-
-// `some` is false, and `z` 0, where there is no screen z.
-#[derive(Clone, Copy)]
-pub struct ScreenZ {
-    pub some: bool,
-    pub z: f64,
-}
-
 fn bit(b: bool, k: u8) -> u8
     ensures { (result ≡ bit_of b k) × (result ≤ k) }
 {
     if b { k } else { 0 }
 }
 
+// Bits 0 to 5: x < -w, x > w, y < -w, y > w, z < -w, z > w.
 fn bits_of(p: [f32; 4]) -> u8
     ensures { result ≡ bits_of p }
 {
@@ -37,27 +24,14 @@ fn bits_of(p: [f32; 4]) -> u8
 fn all_finite(p: [f32; 4]) -> bool
     ensures { result ≡ all_finite p }
 {
-    numbers::finite::is_finite_f32(p[0])
-        & numbers::finite::is_finite_f32(p[1])
-        & numbers::finite::is_finite_f32(p[2])
-        & numbers::finite::is_finite_f32(p[3])
+    p.iter().all(|x| x.is_finite())
 }
 
 // None if one of the four numbers is not finite.
-pub fn clip_code(p: [f32; 4]) -> ClipCode
+pub fn clip_code(p: [f32; 4]) -> Option<u8>
     ensures { result ≡ code_of p }
 {
-    if all_finite(p) {
-        let bits = bits_of(p);
-        return ClipCode {
-            some: true,
-            bits: bits,
-        };
-    }
-    ClipCode {
-        some: false,
-        bits: 0,
-    }
+    all_finite(p).then_some(bits_of(p))
 }
 
 // (z / w * scale + translation) * 1024, in f64.
@@ -72,16 +46,10 @@ fn screen(p: [f32; 4], scale: f32, translation: f32) -> f64
 }
 
 // None without a code, for w = 0, or if it is not finite. `scale` and `translation` are the viewport's for z.
-pub fn screen_z(p: [f32; 4], coded: bool, scale: f32, translation: f32) -> ScreenZ
+pub fn screen_z(p: [f32; 4], coded: bool, scale: f32, translation: f32) -> Option<f64>
     ensures { result ≡ depth_of p coded scale translation }
 {
     let z = screen(p, scale, translation);
-    let some = coded & (p[3] != 0.0) & numbers::finite::is_finite_f64(z);
-    if some {
-        return ScreenZ { some: true, z: z };
-    }
-    ScreenZ {
-        some: false,
-        z: 0.0,
-    }
+    let some = coded & (p[3] != 0.0) & z.is_finite();
+    some.then_some(z)
 }

@@ -8,6 +8,8 @@ use mathlib.Core.Path.{◌≡◌, refl, sym, ap, ◌∙◌}
 use mathlib.Core.List.{List, [], ◌∷◌, ◌++◌}
 use lib.ListN.{length}
 use lib.Ieee.{Float}
+use Rattle.std.specs.Prelude.{is_some, unwrap_or}
+use Rattle.matrix.specs.Math as math
 use Rattle.layout.specs.Layout.{vertex_at}
 use Rattle.layout.specs.declared.records.Vertex.{Vertex}
 use Rattle.vertex.specs.declared.Shared.{Shared}
@@ -38,10 +40,10 @@ module _ (s : State) (m : List (List Float)) (e : Shared) (k r at : ℕ) (b : Li
         ever = filled (λ (i : ℕ). true) s.ever k n;
         loaded = filled (λ (i : ℕ). true) s.loaded k n;
         drawn = filled (λ (i : ℕ). false) s.drawn k n;
-        coded = filled (λ (i : ℕ). (slot_at_turn m e b at i).coded) s.coded k n;
-        code = filled (λ (i : ℕ). (slot_at_turn m e b at i).code) s.code k n;
-        deep = filled (λ (i : ℕ). (slot_at_turn m e b at i).deep) s.deep k n;
-        z = filled (λ (i : ℕ). (slot_at_turn m e b at i).z) s.z k n;
+        coded = filled (λ (i : ℕ). is_some (slot_at_turn m e b at i).code) s.coded k n;
+        code = filled (λ (i : ℕ). unwrap_or (slot_at_turn m e b at i).code 0) s.code k n;
+        deep = filled (λ (i : ℕ). is_some (slot_at_turn m e b at i).z) s.deep k n;
+        z = filled (λ (i : ℕ). unwrap_or (slot_at_turn m e b at i).z math.zero) s.z k n;
       }
 
   -- one more of them

@@ -41,11 +41,9 @@ fn entry(out: &impl Print, s: &[u8]) -> io::Result<()> {
 }
 
 fn clip_code(out: &impl Print, s: &[u8]) -> io::Result<()> {
-    let code = matrix::clip::clip_code(script::row(s, 0));
-    if code.some {
-        show::bits(out, code.bits)
-    } else {
-        show::none(out)
+    match matrix::clip::clip_code(script::row(s, 0)) {
+        Some(bits) => show::bits(out, bits),
+        None => show::none(out),
     }
 }
 
@@ -57,10 +55,9 @@ fn screen_z(out: &impl Print, s: &[u8]) -> io::Result<()> {
         script::float(s, 5),
         script::float(s, 6),
     );
-    if depth.some {
-        show::double(out, depth.z)
-    } else {
-        show::none(out)
+    match depth {
+        Some(z) => show::double(out, z),
+        None => show::none(out),
     }
 }
 

@@ -1,8 +1,9 @@
 -- What the loop over a load's vertices says of itself: cited by the contract of `fill` and the proofs of a load, by no command's contract and by no
 -- theorem. Definitions only.
-use Rattle.std.specs.Prelude.{ℕ, zero, suc, ◌+◌, ◌*◌, ◌≤◌, Bool, true, false, ◌≡◌, List, map, length, set, Float}
+use Rattle.std.specs.Prelude.{ℕ, zero, suc, ◌+◌, ◌*◌, ◌≤◌, Bool, true, false, ◌≡◌, List, map, length, set, Float, is_some, unwrap_or}
 use Rattle.areas.specs.Area.{write}
 use Rattle.areas.specs.Widths.{most, float_width, word_width}
+use Rattle.matrix.specs.Math as math
 use Rattle.layout.specs.Layout.{vertex_at}
 use Rattle.vertex.specs.declared.Shared.{Shared}
 use Rattle.vertex.specs.declared.Slot.{Slot}
@@ -29,10 +30,10 @@ pub record RowsFit (n first count at : ℕ) (b : List ℕ) (f : List Float) (w :
 pub record Laid (m : List (List Float)) (e : Shared) (b : List ℕ) (at first n count : ℕ) (f : List Float) (w : List ℕ) (coded : List Bool) (code : List ℕ) (deep : List Bool) (z f' : List Float) (w' : List ℕ) (coded' : List Bool) (code' : List ℕ) (deep' : List Bool) (z' : List Float) : Type 0 where
   pub floats : f' ≡ write float_width n (map floats_of (vertices_at b at count)) f
   pub words : w' ≡ write word_width n (map (words_of e) (vertices_at b at count)) w
-  pub codeds : coded' ≡ filled (λ (i : ℕ). (slot_at_turn m e b at i).coded) coded first count
-  pub codes : code' ≡ filled (λ (i : ℕ). (slot_at_turn m e b at i).code) code first count
-  pub deeps : deep' ≡ filled (λ (i : ℕ). (slot_at_turn m e b at i).deep) deep first count
-  pub zs : z' ≡ filled (λ (i : ℕ). (slot_at_turn m e b at i).z) z first count
+  pub codeds : coded' ≡ filled (λ (i : ℕ). is_some (slot_at_turn m e b at i).code) coded first count
+  pub codes : code' ≡ filled (λ (i : ℕ). unwrap_or (slot_at_turn m e b at i).code 0) code first count
+  pub deeps : deep' ≡ filled (λ (i : ℕ). is_some (slot_at_turn m e b at i).z) deep first count
+  pub zs : z' ≡ filled (λ (i : ℕ). unwrap_or (slot_at_turn m e b at i).z math.zero) z first count
 
 -- what the four other columns have become then
 pub record Marked (first n count : ℕ) (row : List ℕ) (ever loaded drawn : List Bool) (row' : List ℕ) (ever' loaded' drawn' : List Bool) : Type 0 where

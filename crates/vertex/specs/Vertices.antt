@@ -1,5 +1,5 @@
 -- The vertices of a load: where each is read, its row of table 7, and what its slot gets. Definitions only.
-use Rattle.std.specs.Prelude.{ℕ, zero, suc, ◌+◌, List, [], ◌∷◌, Float}
+use Rattle.std.specs.Prelude.{ℕ, zero, suc, ◌+◌, List, [], ◌∷◌, Float, is_some}
 use Rattle.matrix.specs.Math as math
 use Rattle.matrix.specs.Math.{at, one, row_times}
 use Rattle.matrix.specs.Clip.{code_of, depth_of}
@@ -26,9 +26,8 @@ clip_of m v = row_times (at v.pos 0 ∷ at v.pos 1 ∷ at v.pos 2 ∷ one ∷ []
 -- what the slot gets of a position in clip space
 unfoldable pub slot_at : Shared → List Float → Slot
 slot_at e p =
-    let c = code_of p in
-    let d = depth_of p c.some e.zscale e.ztranslation in
-    record { coded = c.some; code = c.bits; deep = d.some; z = d.z }
+    let code = code_of p in
+    record { code = code; z = depth_of p (is_some code) e.zscale e.ztranslation }
 
 -- what the slot of a vertex gets
 unfoldable pub slot_of : List (List Float) → Shared → Vertex → Slot

@@ -36,27 +36,26 @@ pub struct Shared {
     pub ztranslation: f32,
 }
 
-// What a slot gets: its clip code and its screen z, each with a mark that says whether there is one.
+// What a slot gets: its clip code and its screen z, where there is one.
 #[derive(Clone, Copy)]
 pub struct Slot {
-    pub coded: bool,
-    pub code: u8,
-    pub deep: bool,
-    pub z: f64,
+    pub code: Option<u8>,
+    pub z: Option<f64>,
 }
 
-// Stores the nine floats of the row of `v` from place `at` on, the screen numbers 0. Asks for their room.
+// Stores the nine floats of the row of `v` from place `at` on, the screen numbers 0. Asks for their room. Number by number,
+// here and below: a row made as an array and copied to its place takes a load half as long again.
 fn store_floats(floats: &mut [f32], at: usize, v: Vertex)
     requires { at + float_width ≤ length floats.old }
     ensures { floats.new ≡ put floats.old at (floats_of v) }
 {
-    let pos = v.pos;
-    let st = v.st;
-    floats[at] = pos[0];
-    floats[at + 1] = pos[1];
-    floats[at + 2] = pos[2];
-    floats[at + 3] = st[0];
-    floats[at + 4] = st[1];
+    let [x, y, z] = v.pos;
+    let [s, t] = v.st;
+    floats[at] = x;
+    floats[at + 1] = y;
+    floats[at + 2] = z;
+    floats[at + 3] = s;
+    floats[at + 4] = t;
     floats[at + 5] = 0.0;
     floats[at + 6] = 0.0;
     floats[at + 7] = 0.0;
@@ -84,16 +83,11 @@ fn store_words(words: &mut [u32], at: usize, e: Shared, v: Vertex)
 fn slot_of(m: [[f32; 4]; 4], e: Shared, v: Vertex) -> Slot
     ensures { result ≡ slot_of m e v }
 {
-    let pos = v.pos;
-    let p = matrix::math::mul_row_vec4([pos[0], pos[1], pos[2], 1.0], m);
-    let c = matrix::clip::clip_code(p);
-    let d = matrix::clip::screen_z(p, c.some, e.zscale, e.ztranslation);
-    Slot {
-        coded: c.some,
-        code: c.bits,
-        deep: d.some,
-        z: d.z,
-    }
+    let [x, y, z] = v.pos;
+    let p = matrix::math::mul_row_vec4([x, y, z, 1.0], m);
+    let code = matrix::clip::clip_code(p);
+    let depth = matrix::clip::screen_z(p, code.is_some(), e.zscale, e.ztranslation);
+    Slot { code, z: depth }
 }
 
 // The vertex of 16 bytes from `at` on laid down as row `row`: what its slot gets. Asks for the row's room and for the
@@ -147,9 +141,9 @@ pub fn fill(
         ever[k] = true;
         loaded[k] = true;
         drawn[k] = false;
-        coded[k] = s.coded;
-        code[k] = s.code;
-        deep[k] = s.deep;
-        z[k] = s.z;
+        coded[k] = s.code.is_some();
+        code[k] = s.code.unwrap_or(0);
+        deep[k] = s.z.is_some();
+        z[k] = s.z.unwrap_or(0.0);
     }
 }

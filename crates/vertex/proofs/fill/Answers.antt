@@ -2,6 +2,9 @@ use native.Mathlib.Omega.{arith}
 use mathlib.Core.Bool.{true, false}
 use mathlib.Core.Path.{◌≡◌, refl, ap, subst}
 use Prim.Native.Nat.{ℕ, ◌+◌}
+use Rattle.std.specs.Prelude.{is_some, unwrap_or}
+use Rattle.matrix.specs.Math as math
+use Rattle.matrix.proofs.Constants.{zero64}
 use Rattle.areas.specs.Widths.{float_width, word_width}
 use Rattle.areas.proofs.Tables.{length-write}
 use Rattle.vertex.specs.declared.Slot.{Slot}
@@ -34,10 +37,10 @@ loop-i-preserved c =
       record {
         floats = d;
         words = w;
-        codeds = turned (λ (i : ℕ). (v i).coded) a.coded.now a.first l.i h.codeds (ap (λ (s : Slot). s.coded) y.2) refl;
-        codes = turned (λ (i : ℕ). (v i).code) a.code.now a.first l.i h.codes (ap (λ (s : Slot). s.code) y.2) refl;
-        deeps = turned (λ (i : ℕ). (v i).deep) a.deep.now a.first l.i h.deeps (ap (λ (s : Slot). s.deep) y.2) refl;
-        zs = turned (λ (i : ℕ). (v i).z) a.z.now a.first l.i h.zs (ap (λ (s : Slot). s.z) y.2) refl;
+        codeds = turned (λ (i : ℕ). is_some (v i).code) a.coded.now a.first l.i h.codeds (ap (λ (s : Slot). is_some s.code) y.2) (rw c.is_some.ensures);
+        codes = turned (λ (i : ℕ). unwrap_or (v i).code 0) a.code.now a.first l.i h.codes (ap (λ (s : Slot). unwrap_or s.code 0) y.2) (rw c.unwrap_or.ensures);
+        deeps = turned (λ (i : ℕ). is_some (v i).z) a.deep.now a.first l.i h.deeps (ap (λ (s : Slot). is_some s.z) y.2) (rw c.is_some-in-loop-i.ensures);
+        zs = turned (λ (i : ℕ). unwrap_or (v i).z math.zero) a.z.now a.first l.i h.zs (ap (λ (s : Slot). unwrap_or s.z math.zero) y.2) (rw (c.unwrap_or-in-loop-i.ensures, zero64));
       },
       record {
         rows = turned (λ (i : ℕ). a.n + i) a.row.now a.first l.i u.rows refl refl;
