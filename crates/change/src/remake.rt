@@ -6,8 +6,8 @@ ghost use Rattle.areas.specs.Widths.{most, float_width, word_width, scale_width}
 ghost use Rattle.change.specs.Decoded.{floats_after, words_after, unit_entry};
 ghost use Rattle.change.specs.Steps.{RoomsOf, change_judged, remade};
 
-use crate::judge::{Slot, Tables, Verdict};
-use crate::{Asked, Change};
+use crate::Change;
+use crate::judge::{Moved, Refusal, Slot, Tables};
 use areas::widths::{
     COLOUR_WORD, FLOAT_WIDTH, FOG_WORD, LIGHT_WORD, LIGHTS_WORD, LOOKAT_WORD, S_FLOAT, SCALE_WIDTH,
     SCALE_WORD, SCREEN_X, SCREEN_Y, SCREEN_Z, T_FLOAT, TEXGEN_WORD, WORD_WIDTH,
@@ -65,7 +65,7 @@ fn change_words(words: &mut [u32], at: usize, unit: u32, c: Change)
 fn place_of(unit: u32) -> u32
     ensures { result ≡ unit - 1 }
 {
-    if unit == 0 { 0 } else { unit - 1 }
+    unit.saturating_sub(1)
 }
 
 // The f32 numbers of row `from` copied to row `to`, which is the same row or one behind all rows in use. Asks for that,
@@ -130,24 +130,19 @@ fn append_unit(scales: &mut [f32], used: u32, then: u32)
 // The change judged, and written where it is accepted: the unit scale entry, and the row. Asks for counts in their range and for the
 // rooms of the three areas, which its callers have at hand.
 pub fn remake(
-    asked: Asked,
+    asked: Option<Change>,
     s: Slot,
     t: Tables,
     scales: &mut [f32],
     floats: &mut [f32],
     words: &mut [u32],
-) -> Verdict
+) -> Result<(Change, Moved), Refusal>
     requires { (t.scales ≤ most) × (t.rows ≤ most) × RoomsOf t scales.old floats.old words.old }
     ensures { (result ≡ change_judged asked s t) × ((scales.new, floats.new, words.new) ≡ remade result s t (scales.old, floats.old, words.old)) }
 {
-    let v = crate::judge::judge(asked, s, t);
-    match v {
-        Verdict::No(_) => {}
-        Verdict::Go(c, m) => {
-            append_unit(scales, t.scales, m.scales);
-            remake_floats(floats, s.row, m.row, c);
-            remake_words(words, s.row, m.row, m.unit, c);
-        }
-    }
-    v
+    let (c, m) = crate::judge::judge(asked, s, t)?;
+    append_unit(scales, t.scales, m.scales);
+    remake_floats(floats, s.row, m.row, c);
+    remake_words(words, s.row, m.row, m.unit, c);
+    Ok((c, m))
 }
