@@ -80,23 +80,12 @@ lies asked s t c m f w r e =
 
 -- ---- what the areas come to, by the verdict v
 
-pub untouched : (v : Verdict) (s : Slot) (t : Tables) (l f : List Float) (w : List ℕ) (r : Refusal) → v ≡ Err r → (l, f, w) ≡ remade v s t (l, f, w)
-untouched v s t l f w r e = rw e
-
 module _ (v : Verdict) (s : Slot) (t : Tables) (l f : List Float) (w : List ℕ) (x y : List Float) (z : List ℕ) where
   pub left_alone : (r : Refusal) → v ≡ Err r → (x, y, z) ≡ remade v s t (l, f, w) → (x ≡ l) × ((y ≡ f) × (z ≡ w))
   left_alone r e h =
       let k : ◌≡◌ {A = List Float × List Float × List ℕ} (x, y, z) (l, f, w) = rw e at h in
       (ap (λ (a : List Float × List Float × List ℕ). a.0) k, (ap (λ (a : List Float × List Float × List ℕ). a.1) k, ap (λ (a : List Float × List Float × List ℕ). a.2) k))
 
-  pub carried : (c : Change) (m : Moved) → v ≡ Ok (c, m)
-      → x ≡ pick (ltb t.scales m.scales) (write scale_width t.scales (unit_entry ∷ []) l) l
-      → y ≡ write float_width m.row (floats_after c (part f (s.row * float_width) float_width) ∷ []) f
-      → z ≡ write word_width m.row (words_after c (m.unit - 1) (part w (s.row * word_width) word_width) ∷ []) w
-      → (x, y, z) ≡ remade v s t (l, f, w)
-  carried c m e ex ey ez = rw (e, ex, ey, ez)
-
-  -- and the other way round
   pub carried-out : (c : Change) (m : Moved) → v ≡ Ok (c, m) → (x, y, z) ≡ remade v s t (l, f, w)
       → (x ≡ pick (ltb t.scales m.scales) (write scale_width t.scales (unit_entry ∷ []) l) l)
       × ((y ≡ write float_width m.row (floats_after c (part f (s.row * float_width) float_width) ∷ []) f)
