@@ -16,7 +16,7 @@ pub struct Slot {
 }
 
 // What the judge looks at of tables 3 and 7: the entries in use, how many there is room for, and the place of the unit
-// scale entry plus 1, or 0 where there is none yet.
+// scale entry plus 1, or 0 where there is none yet: the state's own number, whose form is fixed.
 #[derive(Clone, Copy)]
 pub struct Tables {
     pub scales: u32,

@@ -9,6 +9,7 @@ ghost use Rattle.change.specs.Decoded.{decoded, depth_after};
 
 pub mod judge;
 pub mod remake;
+mod row;
 
 // A change of a row, with its decoded values: the colour word; s and t; screen x and y; screen z, and the slot's own.
 #[derive(Clone, Copy)]
