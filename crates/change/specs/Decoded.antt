@@ -1,5 +1,5 @@
 -- The change that an attribute number and a value word ask for, and what it does to a row's numbers. Definitions only.
-use Rattle.std.specs.Prelude.{ℕ, ◌+◌, ◌*◌, ◌/◌, ◌%◌, Bool, false, List, [], ◌∷◌, get_or, set, pos, eqb, Float}
+use Rattle.std.specs.Prelude.{ℕ, ◌+◌, ◌*◌, ◌/◌, ◌%◌, Bool, false, List, [], ◌∷◌, get_or, set, pos, eqb, Float, Option, Some, None}
 use Rattle.std.specs.Int.Bits.{bit_or}
 use Rattle.std.specs.Float.{fin, binary32, binary64}
 use Rattle.numbers.specs.Choice.{pick}
@@ -7,8 +7,6 @@ use Rattle.numbers.specs.Ratio.{signed, of_ratio}
 use Rattle.areas.specs.Widths.{flags_word, scale_word, colour_word, light_word, lights_word, texgen_word, fog_word, lookat_word, s_float, t_float, screen_x, screen_y, screen_z}
 use Rattle.change.specs.declared.Change.{Change}
 use Rattle.change.specs.declared.Change.TheVariants.{Colour, Texture, Screen, Depth}
-use Rattle.change.specs.declared.Asked.{Asked}
-use Rattle.change.specs.declared.Asked.TheVariants.{Known, Unknown}
 
 -- the four bytes of a word, the other way round
 abbrev pub reversed : ℕ → ℕ
@@ -22,13 +20,13 @@ abbrev pub low_by : ℕ → ℕ → Float
 low_by d x = of_ratio binary32 (signed 16 (x % 65536)) d
 
 -- 0x10, 0x14, 0x18 and 0x1C ask for a change, any other attribute for none
-unfoldable pub decoded : ℕ → ℕ → Asked
+unfoldable pub decoded : ℕ → ℕ → Option Change
 decoded attribute value =
-    pick (eqb attribute 0x10) (Known (Colour (reversed value)))
-    (pick (eqb attribute 0x14) (Known (Texture (high_by 32 value) (low_by 32 value)))
-    (pick (eqb attribute 0x18) (Known (Screen (high_by 4 value) (low_by 4 value)))
-    (pick (eqb attribute 0x1C) (Known (Depth (of_ratio binary32 (pos value) 67108864) (of_ratio binary64 (pos value) 65536)))
-    Unknown)))
+    pick (eqb attribute 0x10) (Some (Colour (reversed value)))
+    (pick (eqb attribute 0x14) (Some (Texture (high_by 32 value) (low_by 32 value)))
+    (pick (eqb attribute 0x18) (Some (Screen (high_by 4 value) (low_by 4 value)))
+    (pick (eqb attribute 0x1C) (Some (Depth (of_ratio binary32 (pos value) 67108864) (of_ratio binary64 (pos value) 65536)))
+    None)))
 
 -- the f32 numbers of a row after the change
 unfoldable pub floats_after : Change → List Float → List Float

@@ -1,11 +1,10 @@
 // The judge of a change, and the numbers that an accepted one comes to. Nothing is written before it is through.
 ghost use Rattle.std.specs.Prelude.{◌≡◌, ◌≤◌};
-ghost use Rattle.numbers.specs.Choice.{pick};
 ghost use Rattle.areas.specs.Widths.{most};
 ghost use Rattle.change.specs.Decoded.{appends};
 ghost use Rattle.change.specs.Steps.{row_room, comes_to, roomy, change_judged};
 
-use crate::{Asked, Change};
+use crate::Change;
 use areas::widths::{FLOAT_WIDTH, WORD_WIDTH};
 
 // What the state has of the slot: whether it is loaded, whether it was drawn since its row was made, and its row.
@@ -17,7 +16,7 @@ pub struct Slot {
 }
 
 // What the judge looks at of tables 3 and 7: the entries in use, how many there is room for, and the place of the unit
-// scale entry plus 1, or 0 where there is none yet.
+// scale entry plus 1, or 0 where there is none yet: the state's own number, whose form is fixed.
 #[derive(Clone, Copy)]
 pub struct Tables {
     pub scales: u32,
@@ -45,93 +44,75 @@ pub enum Refusal {
     Full(u32),
 }
 
-// What the judge finds.
-#[derive(Clone, Copy)]
-pub enum Verdict {
-    No(Refusal),
-    Go(Change, Moved),
-}
-
 // How many rows two areas of so many numbers have room for: the lesser room counts.
 pub fn row_room(floats: usize, words: usize) -> usize
     ensures { result ≡ row_room floats words }
 {
-    let x = areas::room_of(FLOAT_WIDTH, floats);
-    let y = areas::room_of(WORD_WIDTH, words);
-    if x < y { x } else { y }
+    areas::room_of(FLOAT_WIDTH, floats).min(areas::room_of(WORD_WIDTH, words))
 }
 
 // Whether the change needs a unit scale entry that is not there yet.
+#[tactic(auto, unfolding(crate::specs::Decoded::appends))]
 fn appends_unit(c: Change, unit: u32) -> bool
     ensures { result ≡ appends c unit }
 {
     match c {
         Change::Texture(_, _) => unit == 0,
-        Change::Colour(_) => false,
-        Change::Screen(_, _) => false,
-        Change::Depth(_, _) => false,
+        _ => false,
     }
-}
-
-// One of two numbers, by a test.
-fn choose(b: bool, x: u32, y: u32) -> u32
-    ensures { result ≡ pick b x y }
-{
-    if b { x } else { y }
 }
 
 // The numbers that the change comes to: a slot that was drawn gets a copy of its row at the end. Asks for counts in their
 // range, which the state's own numbers are by then.
+#[tactic(auto, unfolding(crate::specs::Steps::comes_to, numbers::specs::Choice::pick))]
 fn moved_by(c: Change, s: Slot, t: Tables) -> Moved
     requires { (t.scales ≤ most) × (t.rows ≤ most) }
     ensures { result ≡ comes_to c s t }
 {
     let fresh = appends_unit(c, t.unit);
     Moved {
-        row: choose(s.drawn, t.rows, s.row),
-        rows: choose(s.drawn, t.rows + 1, t.rows),
-        scales: choose(fresh, t.scales + 1, t.scales),
-        unit: choose(fresh, t.scales + 1, t.unit),
+        row: if s.drawn { t.rows } else { s.row },
+        rows: if s.drawn { t.rows + 1 } else { t.rows },
+        scales: if fresh { t.scales + 1 } else { t.scales },
+        unit: if fresh { t.scales + 1 } else { t.unit },
     }
 }
 
 // Refusals 8 and 9, tables 3 and 7. Asks for counts in their range.
-fn judge_room(c: Change, s: Slot, t: Tables) -> Verdict
+#[tactic(auto, unfolding(crate::specs::Steps::roomy, numbers::specs::Choice::unless))]
+fn judge_room(c: Change, s: Slot, t: Tables) -> Result<(Change, Moved), Refusal>
     requires { (t.scales ≤ most) × (t.rows ≤ most) }
     ensures { result ≡ roomy c s t }
 {
     if t.scaleroom < (t.scales as usize) {
-        return Verdict::No(Refusal::Short(3));
+        return Err(Refusal::Short(3));
     }
     if t.rowroom < (t.rows as usize) {
-        return Verdict::No(Refusal::Short(7));
+        return Err(Refusal::Short(7));
     }
     let m = moved_by(c, s, t);
     if t.scaleroom < (m.scales as usize) {
-        return Verdict::No(Refusal::Full(3));
+        return Err(Refusal::Full(3));
     }
     if t.rowroom < (m.rows as usize) {
-        return Verdict::No(Refusal::Full(7));
+        return Err(Refusal::Full(7));
     }
-    Verdict::Go(c, m)
+    Ok((c, m))
 }
 
 // Refusal 5, for a slot that is not loaded or an attribute that is not known, then 10 for the slot's row, then the areas.
 // Asks for counts in their range.
-pub(crate) fn judge(asked: Asked, s: Slot, t: Tables) -> Verdict
+#[tactic(auto, unfolding(crate::specs::Steps::change_judged, numbers::specs::Choice::unless))]
+pub(crate) fn judge(asked: Option<Change>, s: Slot, t: Tables) -> Result<(Change, Moved), Refusal>
     requires { (t.scales ≤ most) × (t.rows ≤ most) }
     ensures { result ≡ change_judged asked s t }
 {
-    match asked {
-        Asked::Unknown => Verdict::No(Refusal::Unknown),
-        Asked::Known(c) => {
-            if !s.loaded {
-                return Verdict::No(Refusal::Unknown);
-            }
-            if t.rows <= s.row {
-                return Verdict::No(Refusal::NoRow);
-            }
-            judge_room(c, s, t)
-        }
+    let c = asked.ok_or(Refusal::Unknown)?;
+    if !s.loaded {
+        return Err(Refusal::Unknown);
     }
+    if t.rows <= s.row {
+        return Err(Refusal::NoRow);
+    }
+    judge_room(c, s, t)
 }

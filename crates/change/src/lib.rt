@@ -2,13 +2,14 @@
 // stands before it.
 #![tactic(auto)]
 
-ghost use Rattle.std.specs.Prelude.{◌≡◌, ◌/◌, ◌%◌};
+ghost use Rattle.std.specs.Prelude.{◌≡◌};
 ghost use Rattle.std.specs.Float.{binary32};
 ghost use Rattle.numbers.specs.Ratio.{signed, of_ratio};
-ghost use Rattle.change.specs.Decoded.{reversed, decoded, depth_after};
+ghost use Rattle.change.specs.Decoded.{decoded, depth_after};
 
 pub mod judge;
 pub mod remake;
+mod row;
 
 // A change of a row, with its decoded values: the colour word; s and t; screen x and y; screen z, and the slot's own.
 #[derive(Clone, Copy)]
@@ -17,34 +18,6 @@ pub enum Change {
     Texture(f32, f32),
     Screen(f32, f32),
     Depth(f32, f64),
-}
-
-// What an attribute number asks for.
-#[derive(Clone, Copy)]
-pub enum Asked {
-    Known(Change),
-    Unknown,
-}
-
-// The four bytes of a word, the other way round.
-fn reverse(x: u32) -> u32
-    ensures { result ≡ reversed x }
-{
-    x % 256 * 16777216 + x / 256 % 256 * 65536 + x / 65536 % 256 * 256 + x / 16777216
-}
-
-// The high half of a word.
-fn high(x: u32) -> u16
-    ensures { result ≡ x / 65536 }
-{
-    (x / 65536) as u16
-}
-
-// The low half of a word.
-fn low(x: u32) -> u16
-    ensures { result ≡ x % 65536 }
-{
-    (x % 65536) as u16
 }
 
 // A half read with its sign, divided by 32.
@@ -61,39 +34,41 @@ fn half_by_4(h: u16) -> f32
     numbers::ratio::by::<4, _>(numbers::signed::signed_half(h))
 }
 
-// The change that an attribute number and a value word ask for.
-pub fn decode(attribute: u32, value: u32) -> Asked
+// The change that an attribute number and a value word ask for, where they ask for one.
+#[tactic(auto, unfolding(crate::specs::Decoded::decoded, numbers::specs::Choice::pick))]
+pub fn decode(attribute: u32, value: u32) -> Option<Change>
     ensures { result ≡ decoded attribute value }
 {
-    if attribute == 0x10 {
-        return Asked::Known(Change::Colour(reverse(value)));
+    let high = (value >> 16) as u16;
+    let low = (value & 0xFFFF) as u16;
+    match attribute {
+        0x10 => Some(Change::Colour(value.swap_bytes())),
+        0x14 => {
+            let s = half_by_32(high);
+            let t = half_by_32(low);
+            Some(Change::Texture(s, t))
+        }
+        0x18 => {
+            let x = half_by_4(high);
+            let y = half_by_4(low);
+            Some(Change::Screen(x, y))
+        }
+        0x1C => {
+            let z = numbers::ratio::by_67108864(value);
+            let own = numbers::ratio::wide_by_65536(value);
+            Some(Change::Depth(z, own))
+        }
+        _ => None,
     }
-    if attribute == 0x14 {
-        let s = half_by_32(high(value));
-        let t = half_by_32(low(value));
-        return Asked::Known(Change::Texture(s, t));
-    }
-    if attribute == 0x18 {
-        let x = half_by_4(high(value));
-        let y = half_by_4(low(value));
-        return Asked::Known(Change::Screen(x, y));
-    }
-    if attribute == 0x1C {
-        let z = numbers::ratio::by_67108864(value);
-        let own = numbers::ratio::wide_by_65536(value);
-        return Asked::Known(Change::Depth(z, own));
-    }
-    Asked::Unknown
 }
 
 // A slot's screen z after the change: only a depth changes it, and only where there is one.
+#[tactic(auto, unfolding(crate::specs::Decoded::depth_after, numbers::specs::Choice::pick))]
 pub fn depth_after(c: Change, deep: bool, z: f64) -> f64
     ensures { result ≡ depth_after c deep z }
 {
     match c {
         Change::Depth(_, own) => { if deep { own } else { z } }
-        Change::Colour(_) => z,
-        Change::Texture(_, _) => z,
-        Change::Screen(_, _) => z,
+        _ => z,
     }
 }

@@ -11,8 +11,8 @@ use Rattle.areas.specs.Area.{room}
 use Rattle.areas.specs.Widths.{matrix_width, viewport_width, index_width}
 use Rattle.areas.proofs.Tables.{length-entries}
 use Rattle.decide.specs.declared.family.Family.{Family}
-use Rattle.change.specs.declared.Asked.{Asked}
-use Rattle.change.specs.declared.Asked.TheVariants.{Known, Unknown}
+use Rattle.std.specs.Prelude.{Option, Some, None}
+use Rattle.change.specs.declared.Change.{Change}
 use Rattle.change.specs.Decoded.{decoded}
 use Rattle.triangle.specs.Slot.{both}
 use Rattle.stage.specs.declared.State.{State}
@@ -97,9 +97,9 @@ module _ (F : ℕ → Family) (limit : State → ℕ) where
   act-longer (depth slot threshold) h = same h.triangles
   act-longer (modify slot attribute value) h = modified-longer (decoded attribute value)
     where
-      modified-longer : (a : Asked) → Longer h.triangles (modifies a slot h).triangles
-      modified-longer Unknown = same h.triangles
-      modified-longer (Known c) = same h.triangles
+      modified-longer : (a : Option Change) → Longer h.triangles (modifies a slot h).triangles
+      modified-longer None = same h.triangles
+      modified-longer (Some c) = same h.triangles
   act-longer (draw a b c material mode colour prim) h =
       pick-case (λ (g : Bench). Longer h.triangles g.triangles) _ (λ _. same h.triangles) (λ _. with-more h.triangles _)
   act-longer (ink colour) h = same h.triangles

@@ -12,9 +12,9 @@ use lib.Ieee.{Float}
 use borrow.Author.Tests.{eqb-false, ne_eqb}
 use Rattle.areas.specs.Widths.{s_float, t_float}
 use Rattle.decide.specs.Append.{final}
+use Rattle.std.specs.Prelude.{Some}
 use Rattle.change.specs.declared.Change.{Change}
 use Rattle.change.specs.declared.Change.TheVariants.{Colour, Texture, Screen, Depth}
-use Rattle.change.specs.declared.Asked.TheVariants.{Known}
 use Rattle.change.specs.declared.judge.Moved.{Moved}
 use Rattle.change.specs.Decoded.{floats_after, unit_entry, appends}
 use Rattle.stage.specs.Modify.{moved, edits37, scale_edit, row_after, row_edit, row_change, changed}
@@ -214,7 +214,7 @@ module _ (limit seats : ℕ) (k : Book) (h : Bench) (I : Inv seats k h) (slot : 
           rw (set-get_or k.state.row slot 0, z) (rw shown-then at (row-changed stands slot r' lo q sound-then))
 
   -- the values that the bench holds then
-  current-then : CurrentIn t (parts_of (changed c m k.state slot)) (modifies (Known c) slot h).values
+  current-then : CurrentIn t (parts_of (changed c m k.state slot)) (modifies (Some c) slot h).values
   unfolding moved changed modifies pick
   current-then =
       let o = I.ties.current in
@@ -232,7 +232,7 @@ module _ (limit seats : ℕ) (k : Book) (h : Bench) (I : Inv seats k h) (slot : 
       }
 
   -- THE INVARIANT AFTER A MODIFY
-  pub modify-keeps : Inv seats (enter (changed c m k.state slot) (edits37 (scale_edit c k.state) (row_change c m k.state k.rows slot)) k) (modifies (Known c) slot h)
+  pub modify-keeps : Inv seats (enter (changed c m k.state slot) (edits37 (scale_edit c k.state) (row_change c m k.state k.rows slot)) k) (modifies (Some c) slot h)
   unfolding changed modifies
   modify-keeps =
       record {

@@ -1,7 +1,7 @@
 -- The bench: so many slots, each holding its vertex by value, settings of its own, and the triangles that it gave, each as it was when drawn.
 -- It obeys the stage's rules on accepted commands with values in place of numbers, and is a function of those commands alone: no state, no
 -- area and no table is an argument of it. Definitions only.
-use Rattle.std.specs.Prelude.{ℕ, ◌+◌, Bool, true, false, not, ◌&&◌, ◌||◌, List, [], ◌∷◌, ◌++◌, map, get_or, set, take, replicate, eqb, Float}
+use Rattle.std.specs.Prelude.{ℕ, ◌+◌, Bool, true, false, not, ◌&&◌, ◌||◌, List, [], ◌∷◌, ◌++◌, map, get_or, set, take, replicate, eqb, Float, Option, Some, None}
 use Rattle.std.proofs.Math.Option.{none, some}
 use Rattle.std.specs.Int.Bits.{bit_or}
 use Rattle.std.specs.Float.Ieee.{eq}
@@ -20,8 +20,6 @@ use Rattle.fold.specs.Scales.{scale_entry}
 use Rattle.vertex.specs.Vertices.{floats_of, vertices_at}
 use Rattle.change.specs.declared.Change.{Change}
 use Rattle.change.specs.declared.Change.TheVariants.{Colour, Texture, Screen, Depth}
-use Rattle.change.specs.declared.Asked.{Asked}
-use Rattle.change.specs.declared.Asked.TheVariants.{Known, Unknown}
 use Rattle.change.specs.Decoded.{decoded, unit_entry}
 use Rattle.triangle.specs.Run.{settings}
 use Rattle.triangle.specs.Slot.{both, culls, swaps}
@@ -186,9 +184,9 @@ with_unit v b =
     record { matrix = v.matrix; viewport = v.viewport; scale = pick (b && not v.unit) unit_entry v.scale; lights = v.lights; lookat = v.lookat; unit = v.unit || b }
 
 -- the slot's corner changed
-unfoldable pub modifies : Asked → ℕ → Bench → Bench
-modifies Unknown slot h = h
-modifies (Known c) slot h =
+unfoldable pub modifies : Option Change → ℕ → Bench → Bench
+modifies None slot h = h
+modifies (Some c) slot h =
     record { slots = set h.slots slot (changed_by c (get_or h.slots slot no_corner)); settings = h.settings; values = with_unit h.values (scaled c); triangles = h.triangles }
 
 -- ---- draw

@@ -20,8 +20,7 @@ use Rattle.decide.specs.Family.{family_of}
 use Rattle.stage.specs.Sound.{limit}
 use Rattle.change.specs.declared.Change.{Change}
 use Rattle.change.specs.declared.Change.TheVariants.{Colour, Texture, Screen, Depth}
-use Rattle.change.specs.declared.Asked.{Asked}
-use Rattle.change.specs.declared.Asked.TheVariants.{Known, Unknown}
+use Rattle.std.specs.Prelude.{Option as Option', Some, None}
 use Rattle.change.specs.declared.judge.Moved.{Moved}
 use Rattle.change.specs.Decoded.{reversed, high_by, low_by, decoded, floats_after, words_after, depth_after, unit_entry, appends}
 use Rattle.stage.specs.Modify.{moved, edits37, scale_edit, row_after, row_edit, row_change, changed}
@@ -133,18 +132,18 @@ kind (Depth z own) =
 -- ---- what is asked for
 
 -- the change, by four tests of the attribute
-abbrev asks : Bool → Bool → Bool → Bool → ℕ → Asked
+abbrev asks : Bool → Bool → Bool → Bool → ℕ → Option' Change
 asks a b c d value =
-    pick a (Known (Colour (reversed value)))
-    (pick b (Known (Texture (high_by 32 value) (low_by 32 value)))
-    (pick c (Known (Screen (high_by 4 value) (low_by 4 value)))
-    (pick d (Known (Depth (of_ratio binary32 (pos value) 67108864) (of_ratio binary64 (pos value) 65536)))
-    Unknown)))
+    pick a (Some (Colour (reversed value)))
+    (pick b (Some (Texture (high_by 32 value) (low_by 32 value)))
+    (pick c (Some (Screen (high_by 4 value) (low_by 4 value)))
+    (pick d (Some (Depth (of_ratio binary32 (pos value) 67108864) (of_ratio binary64 (pos value) 65536)))
+    None)))
 
 -- an attribute is known where a change is asked for
-abbrev pub is_known : Asked → Bool
-is_known Unknown = false
-is_known (Known c) = true
+abbrev pub is_known : Option' Change → Bool
+is_known None = false
+is_known (Some c) = true
 
 pub known_is : (attr value : ℕ) → known attr ≡ is_known (decoded attr value)
 unfolding decoded pick
@@ -158,9 +157,9 @@ known_is attr value = go (eqb attr 0x10) (eqb attr 0x14) (eqb attr 0x18) (eqb at
     go false false false false = refl
 
 -- what is said of a change, where one is asked for
-abbrev OnChange : (Change → Type 0) → Asked → Type 0
-OnChange P Unknown = Unit {0}
-OnChange P (Known c) = P c
+abbrev OnChange : (Change → Type 0) → Option' Change → Type 0
+OnChange P None = Unit {0}
+OnChange P (Some c) = P c
 
 -- the original makes the change that is decoded; the columns that no rule names stay
 module _ (slot gi attr value : ℕ) (h : value < 4294967296) (w : Rsp × Scene) where
@@ -282,7 +281,7 @@ rows-copied {o} {rs} {x} S c u v same unit i h =
 -- ---- the command
 
 module _ {D : Bool → Bool → Type 0} {G : ℕ → ℕ → Type 0} {P : List Float → List (List Float) → Viewports → Type 0} {o : Offsets} {k : Book} {w : World} (N : Near D G P (ScaleSame o.port3 o.rust3) (RowsSame o) k w)
-    (slot attribute value : ℕ) (small : value < 4294967296) (c : Change) (asked : decoded attribute value ≡ Known c) (inside : slot < 256) (lo : get_or k.state.loaded slot false ≡ true) (below : get_or k.state.row slot 0 < k.state.counts.rows) where
+    (slot attribute value : ℕ) (small : value < 4294967296) (c : Change) (asked : decoded attribute value ≡ Some c) (inside : slot < 256) (lo : get_or k.state.loaded slot false ≡ true) (below : get_or k.state.row slot 0 < k.state.counts.rows) where
   abbrev S : Book → World → Type 0
   S = Near D G P (ScaleSame o.port3 o.rust3) (RowsSame o)
 

@@ -11,8 +11,8 @@ use lib.Dec.{leb, ltb}
 use lib.Ieee.{Float}
 use borrow.Author.Tests.{ltb-true, ltb-false, le-leb, lt-leb}
 use Rattle.decide.specs.Judge.{Lent, fits}
-use Rattle.change.specs.declared.Asked.{Asked}
-use Rattle.change.specs.declared.Asked.TheVariants.{Known, Unknown}
+use Rattle.change.specs.declared.Change.{Change}
+use Rattle.std.specs.Prelude.{Option as Option', Some, None}
 use Rattle.change.specs.Decoded.{decoded}
 use Rattle.triangle.specs.Slot.{held, culls}
 use Rattle.stage.specs.declared.State.{State}
@@ -180,10 +180,10 @@ module _ {o : Offsets} {k : Book} {w : World} (N : Same o k w) where
       (λ _. re-does _ _ _ _)))
 
   -- no change is asked for; or one is, of a slot that is not held
-  asked-refused : (slot attribute value : ℕ) (a : Asked) → decoded attribute value ≡ a → Refused (Too (modify slot attribute value)) (asking a slot attribute (change_plan 256 k.state k.scales k.rows slot attribute))
+  asked-refused : (slot attribute value : ℕ) (a : Option' Change) → decoded attribute value ≡ a → Refused (Too (modify slot attribute value)) (asking a slot attribute (change_plan 256 k.state k.scales k.rows slot attribute))
   unfolding execute modify_vertex asking change_plan Refused
-  asked-refused slot attribute value Unknown e = λ _ _. rw (either-last (leb 256 slot) (not (get_or w.rsp.slots.loaded slot false)) (not (known attribute)) (ap not (known_is attribute value ∙ ap is_known e))) (refl, refl)
-  asked-refused slot attribute value (Known x) e =
+  asked-refused slot attribute value None e = λ _ _. rw (either-last (leb 256 slot) (not (get_or w.rsp.slots.loaded slot false)) (not (known attribute)) (ap not (known_is attribute value ∙ ap is_known e))) (refl, refl)
+  asked-refused slot attribute value (Some x) e =
       re-unless _ (ltb slot 256 && get_or k.state.loaded slot false) 5 (slot ∷ attribute ∷ []) _
       (λ f _ _. rw (either_first (leb 256 slot) (not (get_or w.rsp.slots.loaded slot false)) (not (known attribute)) (unheld slot ∙ ap not f)) (refl, refl))
       (λ _.

@@ -17,8 +17,7 @@ use Rattle.decide.specs.Stack.{popped}
 use Rattle.matrix.specs.Math.{rows, laid, times}
 use Rattle.layout.specs.Layout.{matrix_at, inexact_at}
 use Rattle.change.specs.declared.Change.{Change}
-use Rattle.change.specs.declared.Asked.{Asked}
-use Rattle.change.specs.declared.Asked.TheVariants.{Known, Unknown}
+use Rattle.std.specs.Prelude.{Option, Some, None}
 use Rattle.change.specs.Decoded.{decoded}
 use Rattle.stage.specs.Modify.{moved, edits37, asking, scale_edit, row_change, changed, change_plan, modify_plan, ink_plan}
 use Rattle.triangle.specs.Run.{settings, closed}
@@ -88,10 +87,10 @@ module _ (Q : List ℕ → State → Edits → Type 0) where
   on-ever slots s [] p h = h tt
   on-ever slots s (i ∷ is) p h = on-unless (held slots s.ever i) 6 (i ∷ []) (judge_ever slots s is p) (λ e. on-ever slots s is p (λ k. h (e, k)))
 
-  pub on-asking : (a : Asked) (slot attribute : ℕ) (p : Change → Plan) → ((c : Change) → a ≡ Known c → Accepted Q (p c)) → Accepted Q (asking a slot attribute p)
+  pub on-asking : (a : Option Change) (slot attribute : ℕ) (p : Change → Plan) → ((c : Change) → a ≡ Some c → Accepted Q (p c)) → Accepted Q (asking a slot attribute p)
   unfolding asking Accepted
-  on-asking Unknown slot attribute p h = tt
-  on-asking (Known c) slot attribute p h = h c refl
+  on-asking None slot attribute p h = tt
+  on-asking (Some c) slot attribute p h = h c refl
 
   -- an entry appended unless the last one equals it
   pub on-appending : (k : ℕ) (t : Table (List Float)) (m : List Float) (p : Edit (List Float) → Plan)
@@ -177,7 +176,7 @@ module _ (Q : List ℕ → State → Edits → Type 0) where
   pub on-modify : (slots : ℕ) (s : State) (scales : Table (List Float)) (rows : Table Row) (slot attribute value : ℕ)
       → (
       (c : Change)
-      → decoded attribute value ≡ Known c
+      → decoded attribute value ≡ Some c
       → slot < slots
       → get_or s.loaded slot false ≡ true
       → get_or s.row slot 0 < s.counts.rows

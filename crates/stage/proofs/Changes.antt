@@ -9,22 +9,19 @@ use lib.ListN.{length, get_or, set}
 use lib.Dec.{ltb}
 use lib.Ieee.{Float, nan}
 use borrow.Author.Tests.{lt-ltb, le-ltb, ltb-true, ltb-false}
+use Rattle.std.specs.Prelude.{Option, Some, None, Ok, Err}
 use Rattle.areas.specs.Widths.{scale_width, float_width, word_width}
 use Rattle.areas.specs.Area.{part, write}
 use Rattle.areas.proofs.Tables.{length-entries}
 use Rattle.change.specs.declared.Change.{Change}
-use Rattle.change.specs.declared.Asked.{Asked}
-use Rattle.change.specs.declared.Asked.TheVariants.{Known, Unknown}
 use Rattle.change.specs.declared.judge.Slot.{Slot}
 use Rattle.change.specs.declared.judge.Tables.{Tables}
 use Rattle.change.specs.declared.judge.Moved.{Moved}
 use Rattle.change.specs.declared.judge.Refusal.{Refusal}
 use Rattle.change.specs.declared.judge.Refusal.TheVariants.{NoRow, Short, Full}
 use Rattle.change.specs.declared.judge.Refusal.TheVariants as refusal
-use Rattle.change.specs.declared.judge.Verdict.{Verdict}
-use Rattle.change.specs.declared.judge.Verdict.TheVariants.{No, Go}
 use Rattle.change.specs.Decoded.{decoded, floats_after, words_after, depth_after, unit_entry, appends}
-use Rattle.change.specs.Steps.{comes_to, roomy, change_judged, remade}
+use Rattle.change.specs.Steps.{Verdict, comes_to, roomy, change_judged, remade}
 use Rattle.change.proofs.Accepted.{goes, through, lies, left_alone, carried-out}
 use Rattle.stage.specs.declared.State.{State}
 use Rattle.stage.specs.declared.Answer.{Answer}
@@ -52,16 +49,16 @@ tells false n = le-ltb n n (omega arith)
 
 -- the plan that a verdict stands for
 abbrev pub planned : State → Table Row → ℕ → ℕ → Verdict → Plan
-planned s rows slot attribute (No r) = refuse (number (modify_answer slot attribute r)) (values (modify_answer slot attribute r))
-planned s rows slot attribute (Go c m) = does [] (changed c m s slot) (edits37 (scale_edit c s) (row_change c m s rows slot))
+planned s rows slot attribute (Err r) = refuse (number (modify_answer slot attribute r)) (values (modify_answer slot attribute r))
+planned s rows slot attribute (Ok (c, m)) = does [] (changed c m s slot) (edits37 (scale_edit c s) (row_change c m s rows slot))
 
 -- a test of the judge is the same test of the plan
 step : (s : State) (rows : Table Row) (slot attribute : ℕ) (a b : Bool) (r : Refusal) (v : Verdict) (p : Plan) → a ≡ b → p ≡ planned s rows slot attribute v
-    → unless b (refuse (number (modify_answer slot attribute r)) (values (modify_answer slot attribute r))) p ≡ planned s rows slot attribute (unless a (No r) v)
+    → unless b (refuse (number (modify_answer slot attribute r)) (values (modify_answer slot attribute r))) p ≡ planned s rows slot attribute (unless a (Err r) v)
 unfolding unless
 step s rows slot attribute a b r v p e h = rw e (by b)
   where
-    by : (b : Bool) → unless b (refuse (number (modify_answer slot attribute r)) (values (modify_answer slot attribute r))) p ≡ planned s rows slot attribute (unless b (No r) v)
+    by : (b : Bool) → unless b (refuse (number (modify_answer slot attribute r)) (values (modify_answer slot attribute r))) p ≡ planned s rows slot attribute (unless b (Err r) v)
     by true = h
     by false = refl
 
@@ -83,14 +80,14 @@ pub mod-slot : (slot : ℕ) → slot < 256 → slot % 256 ≡ slot
 mod-slot slot h = omega arith
 
 -- the verdict x on what the code looks at: the columns where the slot's number leads within them, and a mark that tells of no slot beyond
-pub looked : (s : State) (slot : ℕ) (k j : Asked) (t u : Tables) (b : Bool) (v x : Verdict) → k ≡ j → t ≡ u → (slot < 256 → b ≡ get_or s.loaded slot false)
+pub looked : (s : State) (slot : ℕ) (k j : Option Change) (t u : Tables) (b : Bool) (v x : Verdict) → k ≡ j → t ≡ u → (slot < 256 → b ≡ get_or s.loaded slot false)
     → v ≡ change_judged k (record { loaded = b && ltb slot 256; drawn = get_or s.drawn (slot % 256) false; row = get_or s.row (slot % 256) 0 }) t → v ≡ x → change_judged j (slot_looked 256 s slot) u ≡ x
 unfolding change_judged unless
 looked s slot k j t u b v x ek et eb e d = by (ltb slot 256) refl ∙ sym e ∙ d
   where
-    beyond : (j : Asked) → change_judged j (record { loaded = false; drawn = get_or s.drawn slot false; row = get_or s.row slot 0 }) u ≡ change_judged j (record { loaded = false; drawn = get_or s.drawn (slot % 256) false; row = get_or s.row (slot % 256) 0 }) u
-    beyond Unknown = refl
-    beyond (Known c) = refl
+    beyond : (j : Option Change) → change_judged j (record { loaded = false; drawn = get_or s.drawn slot false; row = get_or s.row slot 0 }) u ≡ change_judged j (record { loaded = false; drawn = get_or s.drawn (slot % 256) false; row = get_or s.row (slot % 256) 0 }) u
+    beyond None = refl
+    beyond (Some c) = refl
 
     by : (q : Bool) → ltb slot 256 ≡ q
         → change_judged j (slot_looked 256 s slot) u ≡ change_judged k (record { loaded = b && ltb slot 256; drawn = get_or s.drawn (slot % 256) false; row = get_or s.row (slot % 256) 0 }) t
@@ -100,23 +97,23 @@ looked s slot k j t u b v x ek et eb e d = by (ltb slot 256) refl ∙ sym e ∙ 
     by false h = rw (h, ek, et, and-false) (beyond j)
 
 -- the judge's verdict on a change asked for, and what is planned once the state is sound
-abbrev pub verdict : ℕ → State → List Float → List Float → List ℕ → ℕ → Asked → Verdict
+abbrev pub verdict : ℕ → State → List Float → List Float → List ℕ → ℕ → Option Change → Verdict
 verdict slots s l f w slot k = change_judged k (slot_looked slots s slot) (tables_looked s (table scale_width s.counts.scales l) (row_table s.counts.rows f w))
 
-abbrev pub plan : ℕ → State → List Float → List Float → List ℕ → ℕ → ℕ → Asked → Plan
+abbrev pub plan : ℕ → State → List Float → List Float → List ℕ → ℕ → ℕ → Option Change → Plan
 plan slots s l f w slot attribute k = asking k slot attribute (change_plan slots s (table scale_width s.counts.scales l) (row_table s.counts.rows f w) slot attribute)
 
 -- the row that an accepted change writes stands at the slot's row or behind it, and lies in both areas
-pub written : (slots : ℕ) (s : State) (l f : List Float) (w : List ℕ) (slot : ℕ) (k : Asked) (c : Change) (m : Moved) → verdict slots s l f w slot k ≡ Go c m
+pub written : (slots : ℕ) (s : State) (l f : List Float) (w : List ℕ) (slot : ℕ) (k : Option Change) (c : Change) (m : Moved) → verdict slots s l f w slot k ≡ Ok (c, m)
     → (get_or s.row slot 0 ≤ m.row) × (m.row * float_width + float_width ≤ length f) × (m.row * word_width + word_width ≤ length w)
 written slots s l f w slot k c m e = lies k (slot_looked slots s slot) _ c m f w refl e
 
 module _ (slots : ℕ) (s : State) (l f : List Float) (w : List ℕ) (slot attribute : ℕ) where
   -- THE PLAN OF A MODIFY IS WHAT THE VERDICT STANDS FOR
-  pub verdict-plan : (k : Asked) → plan slots s l f w slot attribute k ≡ planned s (row_table s.counts.rows f w) slot attribute (verdict slots s l f w slot k)
+  pub verdict-plan : (k : Option Change) → plan slots s l f w slot attribute k ≡ planned s (row_table s.counts.rows f w) slot attribute (verdict slots s l f w slot k)
   unfolding asking change_plan change_judged roomy comes_to moved
-  verdict-plan Unknown = refl
-  verdict-plan (Known c) =
+  verdict-plan None = refl
+  verdict-plan (Some c) =
       let n7 = s.counts.rows in
       let go = step s (row_table n7 f w) slot attribute in
       go _ _ refusal.Unknown _ _ refl
@@ -127,13 +124,13 @@ module _ (slots : ℕ) (s : State) (l f : List Float) (w : List ℕ) (slot attri
       (go _ _ (Full 7) _ _ (rw (length-rows n7 f w, grown (get_or s.drawn slot false) n7 _ (patch (get_or s.row slot 0) _) refl)) refl)))))
 
   -- a slot that there is not is refused, whatever is asked
-  pub no_slot : (k : Asked) → slots ≤ slot → verdict slots s l f w slot k ≡ No refusal.Unknown
+  pub no_slot : (k : Option Change) → slots ≤ slot → verdict slots s l f w slot k ≡ Err refusal.Unknown
   unfolding change_judged unless
-  no_slot Unknown h = refl
-  no_slot (Known c) h = rw (le-ltb slot slots h)
+  no_slot None h = refl
+  no_slot (Some c) h = rw (le-ltb slot slots h)
 
   -- so an accepted change is of a slot that there is
-  pub there-is : (k : Asked) (c : Change) (m : Moved) → verdict slots s l f w slot k ≡ Go c m → slot < slots
+  pub there-is : (k : Option Change) (c : Change) (m : Moved) → verdict slots s l f w slot k ≡ Ok (c, m) → slot < slots
   there-is k c m e = by (ltb slot slots) refl
     where
       by : (b : Bool) → ltb slot slots ≡ b → slot < slots
@@ -141,12 +138,12 @@ module _ (slots : ℕ) (s : State) (l f : List Float) (w : List ℕ) (slot attri
       by false h = absurd (false≢true (ap goes (sym (no_slot k (ltb-false slot slots h)) ∙ e)))
 
   -- a refusal of the judge is what the plan comes to
-  pub refused-by : (k : Asked) (r : Refusal) → verdict slots s l f w slot k ≡ No r
+  pub refused-by : (k : Option Change) (r : Refusal) → verdict slots s l f w slot k ≡ Err r
       → outcome (record { state = s; answer = modify_answer slot attribute r }) (l, f, w) ≡ carry areas37 (plan slots s l f w slot attribute k) s (l, f, w)
   unfolding carry
   refused-by k r e = rw (verdict-plan k, e)
 
-  module _ (k : Asked) (c : Change) (m : Moved) (e : verdict slots s l f w slot k ≡ Go c m) where
+  module _ (k : Option Change) (c : Change) (m : Moved) (e : verdict slots s l f w slot k ≡ Ok (c, m)) where
     -- an accepted change: the state t and the areas x, y and z are those of the plan, where the leaves have left them so
     pub accepted : (t : State) (x y : List Float) (z : List ℕ)
         → x ≡ pick (ltb s.counts.scales m.scales) (write scale_width s.counts.scales (unit_entry ∷ []) l) l
@@ -195,14 +192,14 @@ module _ (slots : ℕ) (s : State) (l f : List Float) (w : List ℕ) (slot attri
 
   -- the leaf's own areas: as they were where it refuses, and where it accepts what its verdict makes of them
   module _ (v : Verdict) (i : Slot) (u : Tables) (x' y' : List Float) (z' : List ℕ) (q : (x', y', z') ≡ remade v i u (l, f, w)) (ex : x ≡ x') (ey : y ≡ y') (ez : z ≡ z') where
-    pub way-refused : (r : Refusal) → state_sound s ≡ true → verdict slots s l f w slot (decoded attribute value) ≡ No r → v ≡ No r
+    pub way-refused : (r : Refusal) → state_sound s ≡ true → verdict slots s l f w slot (decoded attribute value) ≡ Err r → v ≡ Err r
         → t ≡ s → a ≡ modify_answer slot attribute r → Way
     unfolding modify_plan
     way-refused r h e ev et ea =
         let k = left_alone v i u l f w x' y' z' r ev q in
         rw (et, ea, ex, ey, ez, k.0, k.1.0, k.1.1) (passed areas37 _ _ _ _ _ _ _ h (refused-by slots s l f w slot attribute _ r e))
 
-    pub way-accepted : (c : Change) (m : Moved) → state_sound s ≡ true → verdict slots s l f w slot (decoded attribute value) ≡ Go c m → v ≡ Go c m
+    pub way-accepted : (c : Change) (m : Moved) → state_sound s ≡ true → verdict slots s l f w slot (decoded attribute value) ≡ Ok (c, m) → v ≡ Ok (c, m)
         → i.row ≡ get_or s.row slot 0 → u.scales ≡ s.counts.scales → t ≡ with_counts (changed c m s slot) (counts_to m s.counts) → a ≡ Done → Way
     unfolding modify_plan
     way-accepted c m h e ev ei eu et ea =

@@ -10,15 +10,14 @@ use lib.Seq.{take-take, set-get_or, get_or-set_other}
 use lib.Dec.{eqb, ltb}
 use lib.Ieee.{Float}
 use borrow.Author.Tests.{eqb-true, eqb-false, le-ltb, ne_eqb}
+use Rattle.std.specs.Prelude.{Ok, Err}
 use Rattle.areas.specs.Widths.{scale_width, float_width, word_width}
 use Rattle.areas.specs.Area.{part, write}
 use Rattle.change.specs.declared.Change.{Change}
 use Rattle.change.specs.declared.Change.TheVariants.{Colour, Texture, Screen, Depth}
 use Rattle.change.specs.declared.judge.Moved.{Moved}
-use Rattle.change.specs.declared.judge.Verdict.{Verdict}
-use Rattle.change.specs.declared.judge.Verdict.TheVariants.{No, Go}
 use Rattle.change.specs.Decoded.{decoded, floats_after, words_after, unit_entry, appends}
-use Rattle.change.specs.Steps.{comes_to}
+use Rattle.change.specs.Steps.{Verdict, comes_to}
 use Rattle.change.proofs.Accepted.{through}
 use Rattle.change.proofs.Kept.{floats-kept, words-kept, position-kept}
 use Rattle.change.proofs.Storing.{part-long, elsewhere, there}
@@ -56,7 +55,7 @@ module _ (slots : ℕ) (s : State) (l f : List Float) (w : List ℕ) (slot attri
   -- what holds where nothing is changed, and of every accepted change, holds of a modify
   by_cases : (P : Outcome Areas → Type 0) → ((n : ℕ) (vs : List ℕ) → P (record { state = s; number = n; values = vs; areas = (l, f, w) }))
       → (
-      (c : Change) (m : Moved) → verdict slots s l f w slot (decoded attribute value) ≡ Go c m
+      (c : Change) (m : Moved) → verdict slots s l f w slot (decoded attribute value) ≡ Ok (c, m)
       → P (outcome (record { state = with_counts (changed c m s slot) (counts_to m s.counts); answer = Done }) (
         pick (ltb s.counts.scales m.scales) (write scale_width s.counts.scales (unit_entry ∷ []) l) l,
         write float_width m.row (floats_after c (part f (get_or s.row slot 0 * float_width) float_width) ∷ []) f,
@@ -68,14 +67,14 @@ module _ (slots : ℕ) (s : State) (l f : List Float) (w : List ℕ) (slot attri
   by_cases P same done = sounds (state_sound s) refl
     where
       judges : (v : Verdict) → verdict slots s l f w slot (decoded attribute value) ≡ v → P (carry areas37 (plan slots s l f w slot attribute (decoded attribute value)) s (l, f, w))
-      judges (No r) e = subst P (refused-by slots s l f w slot attribute _ r e) (same _ _)
-      judges (Go c m) e = subst P (accepted slots s l f w slot attribute _ c m e _ _ _ _ refl refl refl refl) (done c m e)
+      judges (Err r) e = subst P (refused-by slots s l f w slot attribute _ r e) (same _ _)
+      judges (Ok (c, m)) e = subst P (accepted slots s l f w slot attribute _ c m e _ _ _ _ refl refl refl refl) (done c m e)
 
       sounds : (b : Bool) → state_sound s ≡ b → P (modified slots s l f w slot attribute value)
       sounds false e = rw e (same 10 [])
       sounds true e = rw e (judges _ refl)
 
-  module _ (c : Change) (m : Moved) (e : verdict slots s l f w slot (decoded attribute value) ≡ Go c m) where
+  module _ (c : Change) (m : Moved) (e : verdict slots s l f w slot (decoded attribute value) ≡ Ok (c, m)) where
     -- where the slot was drawn, its row is then the one behind all in use; else it is the one that it was
     moves : (get_or s.drawn slot false ≡ true) → m.row ≡ s.counts.rows
     unfolding comes_to pick

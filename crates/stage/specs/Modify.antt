@@ -1,9 +1,7 @@
 -- The meaning of modify and of the ink count. Definitions only.
-use Rattle.std.specs.Prelude.{ℕ, ◌+◌, ◌-◌, Bool, false, ◌&&◌, List, [], ◌∷◌, map, get_or, set, ltb, Float}
+use Rattle.std.specs.Prelude.{ℕ, ◌+◌, ◌-◌, Bool, false, ◌&&◌, List, [], ◌∷◌, map, get_or, set, ltb, Float, Option, Some, None}
 use Rattle.std.specs.Float.{nan}
 use Rattle.change.specs.declared.Change.{Change}
-use Rattle.change.specs.declared.Asked.{Asked}
-use Rattle.change.specs.declared.Asked.TheVariants.{Known, Unknown}
 use Rattle.change.specs.declared.judge.Moved.{Moved}
 use Rattle.change.specs.Decoded.{decoded, floats_after, words_after, depth_after, unit_entry, appends}
 use Rattle.ink.specs.Ink.{ink_of}
@@ -24,9 +22,9 @@ areas37 c e l = (after_in scale_area c e l.0, after_in float_area c e l.1, after
 -- ---- modify
 
 -- refusal 5 for an attribute that asks for no change, else what is planned with the change
-unfoldable pub asking : Asked → ℕ → ℕ → (Change → Plan) → Plan
-asking Unknown slot attribute p = refuse 5 (slot ∷ attribute ∷ [])
-asking (Known c) slot attribute p = p c
+unfoldable pub asking : Option Change → ℕ → ℕ → (Change → Plan) → Plan
+asking None slot attribute p = refuse 5 (slot ∷ attribute ∷ [])
+asking (Some c) slot attribute p = p c
 
 -- what a change of a slot comes to: a drawn slot's row is the copy at the end of the rows; a texture change has the unit scale entry, at the end
 -- of the scales where it is new; unit is its place plus 1

@@ -9,7 +9,7 @@ ghost use Rattle.stage.specs.Steps.{modify_answer};
 
 use crate::{Answer, Answered, State};
 use areas::widths::{INDEX_WIDTH, SCALE_WIDTH};
-use change::judge::{Refusal, Slot, Tables, Verdict};
+use change::judge::{Refusal, Slot, Tables};
 
 // The answer that a refusal of the judge stands for.
 fn answer_of(r: Refusal, slot: u32, attribute: u32) -> Answer
@@ -80,21 +80,18 @@ impl State {
             };
             let t = self.tables37(scales.len(), floats.len(), words.len());
             let asked = change::decode(attribute, value);
-            let v = change::remake::remake(asked, s, t, scales, floats, words);
-            match v {
-                Verdict::No(r) => {
-                    answer = answer_of(r, slot, attribute);
-                }
-                Verdict::Go(c, m) => {
+            answer = match change::remake::remake(asked, s, t, scales, floats, words) {
+                Err(r) => answer_of(r, slot, attribute),
+                Ok((c, m)) => {
                     row[k] = m.row;
                     drawn[k] = false;
                     z[k] = change::depth_after(c, deeply, z[k]);
                     self.unit = m.unit;
                     self.counts.scales = m.scales;
                     self.counts.rows = m.rows;
-                    answer = Answer::Done;
+                    Answer::Done
                 }
-            }
+            };
         }
         self.drawn = drawn;
         self.row = row;
@@ -103,6 +100,24 @@ impl State {
             state: self,
             answer: answer,
         }
+    }
+
+    // What the ink count answers; the state stays.
+    fn inked(self, colour: u32, floats: &[f32], words: &[u32], indices: &[u32]) -> Answer
+        ensures { outcome (record { state = self; answer = result }) tt ≡ carry nothing (ink_plan self (row_table self.counts.rows floats.now words.now) (table_in index_area self.counts indices.now) colour) self tt }
+    {
+        if !self.sound() {
+            return Answer::BadState;
+        }
+        let rows = self.counts.rows;
+        let used = self.counts.indices;
+        if !decide::judge::holds(rows, 0, change::judge::row_room(floats.len(), words.len())) {
+            return Answer::ShortArea(7);
+        }
+        if !decide::judge::holds(used, 0, areas::room_of(INDEX_WIDTH, indices.len())) {
+            return Answer::ShortArea(8);
+        }
+        Answer::Told(ink::count_ink(words, rows, indices, used, colour))
     }
 
     // Ink count (15): how many indices in use are of rows in use that are unlit and have the colour word, its bytes as the row has
@@ -116,30 +131,10 @@ impl State {
     ) -> Answered
         ensures { outcome result tt ≡ carry nothing (ink_plan self (row_table self.counts.rows floats.now words.now) (table_in index_area self.counts indices.now) colour) self tt }
     {
-        if !self.sound() {
-            return Answered {
-                state: self,
-                answer: Answer::BadState,
-            };
-        }
-        let rows = self.counts.rows;
-        let used = self.counts.indices;
-        if !decide::judge::holds(rows, 0, change::judge::row_room(floats.len(), words.len())) {
-            return Answered {
-                state: self,
-                answer: Answer::ShortArea(7),
-            };
-        }
-        if !decide::judge::holds(used, 0, areas::room_of(INDEX_WIDTH, indices.len())) {
-            return Answered {
-                state: self,
-                answer: Answer::ShortArea(8),
-            };
-        }
-        let n = ink::count_ink(words, rows, indices, used, colour);
+        let answer = self.inked(colour, floats, words, indices);
         Answered {
             state: self,
-            answer: Answer::Told(n),
+            answer: answer,
         }
     }
 }
