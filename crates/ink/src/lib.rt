@@ -22,11 +22,7 @@ fn ink_at(words: &[u32], rows: u32, i: u32, colour: u32) -> bool
     requires { rows * word_width ≤ length words.now }
     ensures { result ≡ ink_at colour (entries word_width rows words.now) i }
 {
-    if i < rows {
-        has_ink(words, areas::place(WORD_WIDTH, i), colour)
-    } else {
-        false
-    }
+    (i < rows) && has_ink(words, areas::place(WORD_WIDTH, i), colour)
 }
 
 // How many of the first `used` indices are of rows that have the ink. Asks for rows and indices that lie in their areas,
@@ -35,12 +31,8 @@ pub fn count_ink(words: &[u32], rows: u32, indices: &[u32], used: u32, colour: u
     requires { (rows * word_width ≤ length words.now) × (used * index_width ≤ length indices.now) }
     ensures { result ≡ ink_of colour (entries word_width rows words.now) (entries index_width used indices.now) }
 {
-    let n = used as usize;
-    let mut count: u32 = 0;
-    for j in 0..n {
-        if ink_at(words, rows, indices[j], colour) {
-            count = count + 1;
-        }
-    }
-    count
+    let used = &indices[..used as usize];
+    used.iter()
+        .filter(|i| ink_at(words, rows, **i, colour))
+        .count() as u32
 }

@@ -2,9 +2,11 @@
 use mathlib.Core.Path.{◌≡◌, refl, sym, ap, ◌∙◌}
 use Prim.Native.Nat.{ℕ, zero, suc, ◌+◌, ◌≤◌, ◌<◌}
 use native.Mathlib.Omega.{arith}
-use mathlib.Core.Bool.{Bool, true, false, ◌&&◌, and-eq-true_iff, false≢true}
+use mathlib.Core.Bool.{Bool, true, false, not, cond, ◌&&◌, and-eq-true_iff, false≢true}
 use mathlib.Core.List.{List}
 use lib.ListN.{get_or}
+use Rattle.std.specs.List.{find}
+use Rattle.std.proofs.Common.{Option, None, Some}
 use lib.Dec.{eqb}
 use borrow.Author.Tests.{eqb-true, eqb-false}
 use Rattle.numbers.specs.Choice.{pick}
@@ -37,13 +39,28 @@ module _ (v : ℕ) (code : List ℕ) where
       (and-eq-true_iff (flag v (get_or code i 0)) (all_outside v (codes (i + 1) n))).1
       (f i (omega arith) (omega arith), each_all n (i + 1) (λ j h k. f j (omega arith) (omega arith)))
 
-  -- every one has it: the search ends behind them
-  pub passed-all : (n i : ℕ) → all_outside v (codes i n) ≡ true → first_inside v i (codes i n) ≡ i + n
+  -- the first of them that lacks it, searched for
+  abbrev pub sought : ℕ → ℕ → Option ℕ
+  sought i n = find (λ (j : ℕ). not (flag v (get_or code j 0))) (slots_from i n)
+
+  -- where none is found, every one has it
+  pub none-lacks : (n i : ℕ) → sought i n ≡ None → all_outside v (codes i n) ≡ true
+  none-lacks zero i e = refl
+  none-lacks (suc n) i e = by (flag v (get_or code i 0)) _ _ (none-lacks n (i + 1)) e
+    where
+      by : (b : Bool) (r : Option ℕ) (a : Bool) → (r ≡ None → a ≡ true) → cond (not b) (Some i) r ≡ None → b && a ≡ true
+      by true r a h e = h e
+      by false r a h e = cc
+
+  -- one that is found lacks it, and is the first
+  pub some-lacks : (n i x : ℕ) → sought i n ≡ Some x → (all_outside v (codes i n) ≡ false) × (x ≡ first_inside v i (codes i n))
   unfolding pick
-  passed-all zero i e = omega arith
-  passed-all (suc n) i e =
-      let both = (and-eq-true_iff (flag v (get_or code i 0)) (all_outside v (codes (i + 1) n))).0 e in
-      rw both.0 (passed-all n (i + 1) both.1 ∙ omega arith)
+  some-lacks zero i x e = absurd (cc)
+  some-lacks (suc n) i x e = by (flag v (get_or code i 0)) _ _ _ (some-lacks n (i + 1) x) e
+    where
+      by : (b : Bool) (r : Option ℕ) (a : Bool) (f : ℕ) → (r ≡ Some x → (a ≡ false) × (x ≡ f)) → cond (not b) (Some i) r ≡ Some x → (b && a ≡ false) × (x ≡ pick b f i)
+      by true r a f h e = h e
+      by false r a f h e = (refl, cc)
 
   -- x is the first of them that lacks it
   pub record Found (i n x : ℕ) : Type 0 where

@@ -1,13 +1,15 @@
 -- `reason::first_inside` meets its contract. Assumes nothing.
-use mathlib.Core.Path.{sym, ◌∙◌}
-use Rattle.reason.proofs.Walking.{walk_more, walk-stops, walk_ends}
+use Rattle.std.proofs.Common.{rules, tests, ◌-◌, ◌∙◌, refl, not, get_or, sym}
+use Rattle.std.proofs.lemmas.Iterator.{YieldsList-from_range}
+use Rattle.std.proofs.lemmas.Iterator.Adapters.{option_map_id}
+use Rattle.std.proofs.lemmas.Iterator.Search.{find_from_yields_List}
+use Rattle.decide.specs.Family.{flag}
+use Rattle.reason.proofs.Walking.{slots_are}
 use Rattle.reason.proofs.first_inside.Goals as goal
 
-pub returns-then-not-outside : goal.returns-then-not-outside
-returns-then-not-outside c = walk-stops _ _ _ _ _ c.loop-i.invariant c.loop-i-test.true (sym c.outside.ensures ∙ c.if-not-outside.true)
-
-pub loop-i-preserved : goal.loop-i-preserved
-loop-i-preserved c = walk_more _ _ _ _ _ c.loop-i.invariant c.loop-i-test.true (sym c.outside.ensures ∙ c.if-not-outside.false)
-
 pub returns : goal.returns
-returns c = walk_ends _ _ _ _ _ c.loop-i.invariant c.loop-i-test.false
+returns c =
+    let a = c.args in
+    rw (slots_are a.first (a.end - a.first))
+    (sym (option_map_id c.find.result)
+    ∙ find_from_yields_List (λ i. not (flag a.v (get_or a.code.now i 0))) _ _ c.find.result c.find.ensures.ran (YieldsList-from_range a.first a.end (a.end - a.first) refl refl) (λ x b q k. search (rules, tests)))

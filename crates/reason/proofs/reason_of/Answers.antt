@@ -1,54 +1,43 @@
 -- `reason::reason_of` meets its contract. Assumes nothing.
+use Rattle.std.proofs.Common.{sym, ◌∙◌}
 use Rattle.reason.proofs.Finding.{is-left, is_right, is-bottom, is-top, is_none}
 use Rattle.reason.proofs.reason_of.Goals as goal
 
-pub first_inside-left-requires : goal.first_inside-left-requires
-first_inside-left-requires c = c.end_of-end.ensures.1
-
-pub returns-then-end-left : goal.returns-then-end-left
-returns-then-end-left c =
+pub returns-in_default : goal.returns-in_default
+returns-in_default c =
     let a = c.args in
-    rw (← c.end_of-end.ensures.0)
-    (is-left a.code.now a.first c.end_of-end.result _ c.first_inside-left.ensures c.if-end-left.true)
+    rw (← c.min-end.ensures)
+    (is-left a.code.now a.first c.min-end.result (sym c.first_inside.ensures ∙ c.in_default.is))
 
-pub first_inside-right-requires : goal.first_inside-right-requires
-first_inside-right-requires c = c.end_of-end.ensures.1
-
-pub returns-then-end-right : goal.returns-then-end-right
-returns-then-end-right c =
+pub returns-in_default-first_inside : goal.returns-in_default-first_inside
+returns-in_default-first_inside c =
     let a = c.args in
-    rw (← c.end_of-end.ensures.0)
-    (is_right a.code.now a.first c.end_of-end.result _ c.first_inside-left.ensures c.if-end-left.false
-    _ c.first_inside-right.ensures c.if-end-right.true)
+    rw (← c.min-end.ensures)
+    (is_right a.code.now a.first c.min-end.result _ (sym c.first_inside.ensures ∙ c.in-Some.is)
+    (sym c.first_inside-2.ensures ∙ c.in_default-first_inside.is))
 
-pub first_inside-bottom-requires : goal.first_inside-bottom-requires
-first_inside-bottom-requires c = c.end_of-end.ensures.1
-
-pub returns-then-end-bottom : goal.returns-then-end-bottom
-returns-then-end-bottom c =
+pub returns-in_default-first_inside-2 : goal.returns-in_default-first_inside-2
+returns-in_default-first_inside-2 c =
     let a = c.args in
-    rw (← c.end_of-end.ensures.0)
-    (is-bottom a.code.now a.first c.end_of-end.result _ c.first_inside-left.ensures c.if-end-left.false
-    _ c.first_inside-right.ensures c.if-end-right.false
-    _ c.first_inside-bottom.ensures c.if-end-bottom.true)
+    rw (← c.min-end.ensures)
+    (is-bottom a.code.now a.first c.min-end.result _ (sym c.first_inside.ensures ∙ c.in-Some.is)
+    _ (sym c.first_inside-2.ensures ∙ c.in-Some-first_inside.is)
+    (sym c.first_inside-3.ensures ∙ c.in_default-first_inside-2.is))
 
-pub first_inside-top-requires : goal.first_inside-top-requires
-first_inside-top-requires c = c.end_of-end.ensures.1
-
-pub returns-then-end-top : goal.returns-then-end-top
-returns-then-end-top c =
+pub returns-in_default-first_inside-3 : goal.returns-in_default-first_inside-3
+returns-in_default-first_inside-3 c =
     let a = c.args in
-    rw (← c.end_of-end.ensures.0)
-    (is-top a.code.now a.first c.end_of-end.result _ c.first_inside-left.ensures c.if-end-left.false
-    _ c.first_inside-right.ensures c.if-end-right.false
-    _ c.first_inside-bottom.ensures c.if-end-bottom.false
-    _ c.first_inside-top.ensures c.if-end-top.true)
+    rw (← c.min-end.ensures)
+    (is-top a.code.now a.first c.min-end.result _ (sym c.first_inside.ensures ∙ c.in-Some.is)
+    _ (sym c.first_inside-2.ensures ∙ c.in-Some-first_inside.is)
+    _ (sym c.first_inside-3.ensures ∙ c.in-Some-first_inside-2.is)
+    (sym c.first_inside-4.ensures ∙ c.in_default-first_inside-3.is))
 
 pub returns : goal.returns
 returns c =
     let a = c.args in
-    rw (← c.end_of-end.ensures.0)
-    (is_none a.code.now a.first c.end_of-end.result _ c.first_inside-left.ensures c.if-end-left.false
-    _ c.first_inside-right.ensures c.if-end-right.false
-    _ c.first_inside-bottom.ensures c.if-end-bottom.false
-    _ c.first_inside-top.ensures c.if-end-top.false)
+    rw (← c.min-end.ensures)
+    (is_none a.code.now a.first c.min-end.result _ (sym c.first_inside.ensures ∙ c.in-Some.is)
+    _ (sym c.first_inside-2.ensures ∙ c.in-Some-first_inside.is)
+    _ (sym c.first_inside-3.ensures ∙ c.in-Some-first_inside-2.is)
+    _ (sym c.first_inside-4.ensures ∙ c.in-Some-first_inside-3.is))
