@@ -1,26 +1,44 @@
 -- The first table that does not fit, test by test. Assumes nothing.
-use mathlib.Core.Path.{◌≡◌, refl, sym, ◌∙◌}
-use Prim.Native.Nat.{ℕ, ◌+◌}
-use mathlib.Core.Bool.{Bool, true, false}
-use mathlib.Core.List.{List, [], ◌∷◌}
+use mathlib.Core.Path.{◌≡◌, sym, ap, ◌∙◌}
+use Prim.Native.Nat.{ℕ, ◌+◌, ◌-◌, ◌≤◌, ◌<◌}
+use native.Mathlib.Numerals.{add-one}
+use native.Mathlib.Omega.{arith}
+use mathlib.Core.Bool.{Bool, true, false, ◌&&◌}
+use mathlib.Core.List.{List, ◌∷◌, map}
+use lib.ListN.{length, get_or, drop, drop_of_length-le}
+use lib.Seq.{drop-cons}
 use lib.Dec.{leb}
-use borrow.Author.Tests.{not-true, not-false}
+use borrow.Author.Tests.{not-true, not-false, le-leb, lt-leb}
+use Rattle.std.specs.Prelude.{Some, None}
 use Rattle.numbers.specs.Choice.{unless}
 use Rattle.decide.specs.declared.judge.Fill.{Fill}
-use Rattle.decide.specs.Judge.{Lent}
+use Rattle.decide.specs.Judge.{fits}
 use Rattle.decide.specs.Steps.{first_short, fill_of, short_of}
 
--- the table k does not fit: it is the first
-pub short-here : (k : ℕ) (t : Fill) (ts : List Lent) (r : Bool) → r ≡ short_of t → r ≡ true → k ≡ first_short (fill_of k t ∷ ts)
-unfolding first_short unless
-short-here k t ts r e h = rw (not-true (leb (t.used + t.more) t.room) (sym e ∙ h))
+-- the first of l that does not fit, where those before place i do
+abbrev First : List Fill → ℕ → Type 0
+First l i = first_short (map fill_of (drop i l)) ≡ first_short (map fill_of l)
 
--- it fits: the first is among those that follow
-pub short-after : (k : ℕ) (t : Fill) (ts : List Lent) (r : Bool) (n : ℕ) → r ≡ short_of t → r ≡ false → n ≡ first_short ts → n ≡ first_short (fill_of k t ∷ ts)
-unfolding first_short unless
-short-after k t ts r n e h m = rw (not-false (leb (t.used + t.more) t.room) (sym e ∙ h)) m
+-- the table at place i is the first of those that are left
+module _ (l : List Fill) (i : ℕ) (d : Fill) (r : Bool) (at : i < length l) (asked : r ≡ short_of (get_or l i d)) where
+  abbrev here : Fill
+  here = get_or l i d
+
+  split : first_short (map fill_of (drop i l)) ≡ first_short (fill_of here ∷ map fill_of (drop (i + 1) l))
+  split = ap (λ (k : List Fill). first_short (map fill_of k)) (drop-cons l i d at ∙ ap (λ (j : ℕ). here ∷ drop j l) (sym (add-one i)))
+
+  -- it does not fit
+  pub found : r ≡ true → First l i → Some here.number ≡ first_short (map fill_of l)
+  unfolding first_short unless
+  found h e = rw (not-true (fits (fill_of here)) (sym asked ∙ h)) at (sym split ∙ e)
+
+  -- it fits
+  pub passed : r ≡ false → First l i → First l (i + 1)
+  unfolding first_short unless
+  passed h e = rw (not-false (fits (fill_of here)) (sym asked ∙ h)) at (sym split ∙ e)
 
 -- no table is left
-pub short_none : 0 ≡ first_short []
+pub none_left : (l : List Fill) (i : ℕ) → length l ≤ i → First l i → None ≡ first_short (map fill_of l)
 unfolding first_short
-short_none = refl
+none_left l i h e = ap (λ (k : List Fill). first_short (map fill_of k)) (sym (drop_of_length-le l h)) ∙ e
+

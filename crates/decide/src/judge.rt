@@ -1,5 +1,5 @@
 // The tests behind refusals 7, 8 and 9, and flags of a word.
-ghost use Rattle.std.specs.Prelude.{◌≡◌, ◌+◌, leb, [], ◌∷◌, ◌&&◌};
+ghost use Rattle.std.specs.Prelude.{◌≡◌, ◌+◌, leb, map, ◌&&◌};
 ghost use Rattle.decide.specs.Family.{flag};
 ghost use Rattle.decide.specs.Steps.{first_short, fill_of, short_of};
 
@@ -31,44 +31,32 @@ pub fn slots_there(slots: u32, first: u32, count: u32) -> bool
     slots.checked_sub(count).is_some_and(|last| first <= last)
 }
 
-// A table as refusals 8 and 9 see it: entries in use, entries to be appended, room.
+// A table as refusals 8 and 9 see it: its number, entries in use, entries to be appended, room.
 #[derive(Clone, Copy)]
 pub struct Fill {
+    pub number: u32,
     pub used: u32,
     pub more: u32,
     pub room: usize,
 }
 
-fn short_of(t: Fill) -> bool
-    ensures { result ≡ short_of t }
-{
-    !holds(t.used, t.more, t.room)
+impl Fill {
+    // Whether it has less room than it is to hold.
+    fn short_of(&self) -> bool
+        ensures { result ≡ short_of self.now }
+    {
+        !holds(self.used, self.more, self.room)
+    }
 }
 
-// The number of the first of a load's six tables that has less room than it is to hold, or 0.
-pub fn first_short(t1: Fill, t3: Fill, t4: Fill, t5: Fill, t6: Fill, t7: Fill) -> u32
-    ensures { result ≡ first_short (fill_of 1 t1 ∷ fill_of 3 t3 ∷ fill_of 4 t4 ∷ fill_of 5 t5 ∷ fill_of 6 t6 ∷ fill_of 7 t7 ∷ []) }
+// The number of the first table that has less room than it is to hold.
+pub fn first_short(tables: &[Fill]) -> Option<u32>
+    ensures { result ≡ first_short (map fill_of tables.now) }
 {
-    if short_of(t1) {
-        return 1;
+    for t in tables {
+        if t.short_of() {
+            return Some(t.number);
+        }
     }
-    if short_of(t3) {
-        return 3;
-    }
-    if short_of(t4) {
-        return 4;
-    }
-    first_short_above(t5, t6, t7)
-}
-
-fn first_short_above(t5: Fill, t6: Fill, t7: Fill) -> u32
-    ensures { result ≡ first_short (fill_of 5 t5 ∷ fill_of 6 t6 ∷ fill_of 7 t7 ∷ []) }
-{
-    if short_of(t5) {
-        return 5;
-    }
-    if short_of(t6) {
-        return 6;
-    }
-    if short_of(t7) { 7 } else { 0 }
+    None
 }

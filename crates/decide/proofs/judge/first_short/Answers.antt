@@ -1,14 +1,11 @@
-use Rattle.decide.proofs.Shorts.{short-here, short-after}
+use Rattle.decide.proofs.Shorts.{found, passed, none_left}
 use Rattle.decide.proofs.judge.first_short.Goals as goal
 
 pub returns-then-short_of : goal.returns-then-short_of
-returns-then-short_of c = short-here 1 _ _ _ c.short_of.ensures c.if-short_of.true
+returns-then-short_of c = found _ _ _ _ c.loop-t-test.true c.short_of.ensures c.if-short_of.true c.loop-t.invariant
 
-pub returns-then-short_of-2 : goal.returns-then-short_of-2
-returns-then-short_of-2 c = short-after 1 _ _ _ _ c.short_of.ensures c.if-short_of.false (short-here 3 _ _ _ c.short_of-2.ensures c.if-short_of-2.true)
-
-pub returns-then-short_of-3 : goal.returns-then-short_of-3
-returns-then-short_of-3 c = short-after 1 _ _ _ _ c.short_of.ensures c.if-short_of.false (short-after 3 _ _ _ _ c.short_of-2.ensures c.if-short_of-2.false (short-here 4 _ _ _ c.short_of-3.ensures c.if-short_of-3.true))
+pub loop-t-preserved : goal.loop-t-preserved
+loop-t-preserved c = passed _ _ _ _ c.loop-t-test.true c.short_of.ensures c.if-short_of.false c.loop-t.invariant
 
 pub returns : goal.returns
-returns c = short-after 1 _ _ _ _ c.short_of.ensures c.if-short_of.false (short-after 3 _ _ _ _ c.short_of-2.ensures c.if-short_of-2.false (short-after 4 _ _ _ _ c.short_of-3.ensures c.if-short_of-3.false c.first_short_above.ensures))
+returns c = none_left _ _ c.loop-t-test.false c.loop-t.invariant
