@@ -1,17 +1,18 @@
 -- How an op is read, case by case, and where the next one stands; the front of a list. Assumes nothing.
-use mathlib.Core.Path.{◌≡◌, refl, sym, subst}
-use mathlib.Core.Bool.{Bool, true, false}
+use mathlib.Core.Path.{◌≡◌, sym, ap, ◌∙◌}
 use mathlib.Core.List.{List}
 use Prim.Native.Nat.{ℕ, ◌+◌, ◌-◌, ◌≤◌, ◌<◌}
 use native.Mathlib.Omega.{arith}
-use borrow.Author.Tests.{le-leb, lt-leb, leb-true}
-use lib.Dec.{leb}
+use borrow.Author.Tests.{le-leb, lt-leb}
 use lib.ListN.{length, take, drop, get_or, length-drop}
 use lib.Seq.{length-take-le, take_all}
 use Rattle.numbers.specs.Choice.{pick}
-use Rattle.trace.specs.declared.ops.Shape.{Shape}
-use Rattle.trace.specs.declared.script.Call.{Call}
-use Rattle.trace.specs.Script.{args_of, size_of, data_of, cut_of, whole_of, call_at, Ahead}
+use Rattle.std.specs.Prelude.{Result, Ok, Err}
+use Rattle.trace.specs.declared.ops.Op.{Op}
+use Rattle.trace.specs.declared.ops.Cut.{Cut}
+use Rattle.trace.specs.declared.ops.Cut.TheVariants.{Short}
+use Rattle.trace.specs.Shapes.{op_of, shape_of}
+use Rattle.trace.specs.Script.{args_of, size_of, data_of, whole_of, read_as, call_at}
 
 pub front : {A : Type 0} (n : ℕ) (l : List A) → n ≤ length l → n ≡ length (take n l)
 front n l h = sym (length-take-le n l h)
@@ -20,57 +21,26 @@ front n l h = sym (length-take-le n l h)
 pub tail-is : (l : List ℕ) (n : ℕ) → take (length l - n) (drop n l) ≡ drop n l
 tail-is l n = take_all (length l - n) (drop n l) (omega (arith, length-drop n l))
 
--- what holds of both holds of the one picked
-picked : {A : Type 0} (P : A → Type 0) (b : Bool) {x y : A} → (b ≡ true → P x) → (b ≡ false → P y) → P (pick b x y)
-unfolding pick
-picked P true f g = f refl
-picked P false f g = g refl
+-- an op whose number stands at a place
+pub known : (s : List ℕ) (at : ℕ) (r : Result Op Cut) → r ≡ op_of (get_or s at 0) → read_as s at r ≡ call_at s at
+unfolding call_at
+known s at r e = ap (read_as s at) e
 
-module _ (h : Shape) (s : List ℕ) (at : ℕ) where
+module _ (o : Op) (s : List ℕ) (at : ℕ) where
   abbrev rest : List ℕ
   rest = drop (at + 1) s
 
-  abbrev cut : Call
-  cut = cut_of (get_or s at 0) (args_of rest) (length s)
+  pub short-words : length rest < size_of (shape_of o) → Err Short ≡ read_as s at (Ok o)
+  unfolding read_as pick size_of
+  short-words f = rw (lt-leb (size_of (shape_of o)) (length rest) f)
 
-  pub unknown : h.known ≡ false → cut ≡ call_at h s at
-  unfolding call_at pick
-  unknown e = rw e
-
-  pub short-words : h.known ≡ true → length rest < size_of h → cut ≡ call_at h s at
-  unfolding call_at pick size_of
-  short-words e f = rw (e, lt-leb (size_of h) (length rest) f)
-
-  pub short-data : h.known ≡ true → size_of h ≤ length rest → length rest - size_of h < data_of h rest → cut ≡ call_at h s at
-  unfolding call_at pick size_of data_of
-  short-data e f g = rw (e, le-leb (size_of h) (length rest) f, lt-leb (data_of h rest) (length rest - size_of h) g)
+  pub short-data : size_of (shape_of o) ≤ length rest → length rest - size_of (shape_of o) < data_of (shape_of o) rest → Err Short ≡ read_as s at (Ok o)
+  unfolding read_as pick size_of data_of
+  short-data f g = rw (le-leb (size_of (shape_of o)) (length rest) f, lt-leb (data_of (shape_of o) rest) (length rest - size_of (shape_of o)) g)
 
   pub all_there :
-      h.known ≡ true →
-      size_of h ≤ length rest →
-      data_of h rest ≤ length rest - size_of h →
-      whole_of (get_or s at 0) (args_of rest) (at + 1 + size_of h) (data_of h rest) ≡ call_at h s at
-  unfolding call_at pick size_of data_of
-  all_there e f g = rw (e, le-leb (size_of h) (length rest) f, le-leb (data_of h rest) (length rest - size_of h) g)
-
-  -- the next op
-  ahead : at < length s → Ahead at (length s) (call_at h s at)
-  unfolding call_at
-  ahead g =
-      picked (Ahead at (length s)) h.known
-      (λ _. picked (Ahead at (length s)) (leb (size_of h) (length rest)) (λ e. picked (Ahead at (length s)) (leb (data_of h rest) (length rest - size_of h)) (there e) (λ _. here)) (λ _. here))
-      (λ _. here)
-    where
-      here : Ahead at (length s) cut
-      here = record { past = g; order = omega arith; inside = omega arith }
-
-      there : leb (size_of h) (length rest) ≡ true → leb (data_of h rest) (length rest - size_of h) ≡ true → Ahead at (length s) (whole_of (get_or s at 0) (args_of rest) (at + 1 + size_of h) (data_of h rest))
-      there e f =
-          let p : size_of h ≤ length rest = leb-true _ _ e in
-          let q : data_of h rest ≤ length rest - size_of h = leb-true _ _ f in
-          let r : length rest ≡ length s - (at + 1) = length-drop (at + 1) s in
-          record { past = omega arith; order = omega arith; inside = omega arith }
-
-  -- an op that is so read
-  pub as_read : at < length s → {c : Call} → c ≡ call_at h s at → (c ≡ call_at h s at) × Ahead at (length s) c
-  as_read g e = (e, subst (Ahead at (length s)) (sym e) (ahead g))
+      size_of (shape_of o) ≤ length rest →
+      data_of (shape_of o) rest ≤ length rest - size_of (shape_of o) →
+      Ok (whole_of o (args_of rest) (at + 1 + size_of (shape_of o)) (data_of (shape_of o) rest)) ≡ read_as s at (Ok o)
+  unfolding read_as pick size_of data_of
+  all_there f g = rw (le-leb (size_of (shape_of o)) (length rest) f, le-leb (data_of (shape_of o) rest) (length rest - size_of (shape_of o)) g)

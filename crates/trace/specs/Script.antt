@@ -1,9 +1,13 @@
 -- How an op is read from a script. Definitions only.
-use Rattle.std.specs.Prelude.{ℕ, ◌+◌, ◌*◌, ◌-◌, ◌≤◌, ◌<◌, true, false, List, length, drop, get_or, leb}
+use Rattle.std.specs.Prelude.{ℕ, ◌+◌, ◌*◌, ◌-◌, ◌≤◌, ◌<◌, List, length, drop, get_or, leb, Result, Ok, Err}
 use Rattle.numbers.specs.Choice.{pick}
+use Rattle.trace.specs.declared.ops.Op.{Op}
+use Rattle.trace.specs.declared.ops.Cut.{Cut}
+use Rattle.trace.specs.declared.ops.Cut.TheVariants.{Short}
 use Rattle.trace.specs.declared.ops.Shape.{Shape}
 use Rattle.trace.specs.declared.script.Args.{Args}
 use Rattle.trace.specs.declared.script.Call.{Call}
+use Rattle.trace.specs.Shapes.{op_of, shape_of}
 
 -- word k of the bytes, of 32 bits, low byte first, with 0 for a byte that lies past the end
 abbrev pub word_at : List ℕ → ℕ → ℕ
@@ -30,25 +34,28 @@ size_of h = 4 * h.arguments + pick h.bytes 4 0
 unfoldable pub data_of : Shape → List ℕ → ℕ
 data_of h s = pick h.bytes (word_at s h.arguments) 0
 
--- an op that is not whole, in a script of n bytes
-abbrev pub cut_of : ℕ → Args → ℕ → Call
-cut_of o x n = record { whole = false; op = o; args = x; from = n; to = n }
-
 -- an op with m bytes of data from a place on
-abbrev pub whole_of : ℕ → Args → ℕ → ℕ → Call
-whole_of o x at m = record { whole = true; op = o; args = x; from = at; to = at + m }
+abbrev pub whole_of : Op → Args → ℕ → ℕ → Call
+whole_of o x at m = record { op = o; args = x; from = at; to = at + m }
 
--- the op at a place, of a given shape: not whole where the op is unknown or the script ends before its words or its data do
-unfoldable pub call_at : Shape → List ℕ → ℕ → Call
-call_at h s at =
-    let o = get_or s at 0 in
+-- the op at a place: none where the script ends before its words or its data do
+unfoldable pub read_as : List ℕ → ℕ → Result Op Cut → Result Call Cut
+read_as s at (Err e) = Err e
+read_as s at (Ok o) =
+    let h = shape_of o in
     let t = drop (at + 1) s in
-    let cut = cut_of o (args_of t) (length s) in
-    pick h.known
-    (pick (leb (size_of h) (length t))
-    (pick (leb (data_of h t) (length t - size_of h)) (whole_of o (args_of t) (at + 1 + size_of h) (data_of h t)) cut)
-    cut)
-    cut
+    pick (leb (size_of h) (length t))
+    (pick (leb (data_of h t) (length t - size_of h)) (Ok (whole_of o (args_of t) (at + 1 + size_of h) (data_of h t))) (Err Short))
+    (Err Short)
+
+-- and none where no op has the number that stands there
+unfoldable pub call_at : List ℕ → ℕ → Result Call Cut
+call_at s at = read_as s at (op_of (get_or s at 0))
+
+-- what f makes of the op that is read, and x where none is
+abbrev pub read_or : {A : Type 0} → A → (Call → A) → Result Call Cut → A
+read_or x f (Ok c) = f c
+read_or x f (Err e) = x
 
 -- the next op stands behind this one, in a script of n bytes, and the data in front of it
 pub record Ahead (at n : ℕ) (c : Call) : Type 0 where

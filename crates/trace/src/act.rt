@@ -3,11 +3,13 @@ ghost use Rattle.std.specs.Prelude.{◌≡◌, ◌&&◌, [], ◌∷◌, ◌%◌,
 ghost use Rattle.areas.specs.Area.{put};
 ghost use Rattle.numbers.specs.Choice.{pick};
 ghost use Rattle.numbers.specs.Ratio.{signed};
+ghost use Rattle.trace.specs.Shapes.{number_of};
 ghost use Rattle.trace.specs.Acts.{length_list, lent_after, written_to};
 
+use crate::ops::Op;
 use crate::rooms::Lengths;
+use crate::script;
 use crate::script::Call;
-use crate::{ops, script};
 
 // The lengths with n for that of an area. From 10 on there is no area.
 fn with_length(l: Lengths, area: u32, n: usize) -> Lengths
@@ -34,37 +36,25 @@ fn with_length(l: Lengths, area: u32, n: usize) -> Lengths
 pub fn lent_after(l: Lengths, c: Call) -> Lengths
     ensures { length_list result ≡ lent_after c (length_list l) }
 {
-    if c.op == ops::LEND {
-        with_length(l, c.args.a, c.args.b as usize)
-    } else {
-        l
+    match c.op {
+        Op::Lend => with_length(l, c.args.a, c.args.b as usize),
+        _ => l,
     }
 }
 
 // Whether the op c writes to an area.
 fn writes_to(c: Call, area: u32) -> bool
-    ensures { result ≡ (eqb c.op 35 && eqb c.args.a area) }
+    ensures { result ≡ (eqb (number_of c.op) 35 && eqb c.args.a area) }
 {
-    (c.op == ops::WRITE) & (c.args.a == area)
+    c.op == Op::Write && c.args.a == area
 }
 
-// A word written at a place, where it is asked and the place lies in the area.
-fn write_word(words: &mut [u32], on: bool, at: usize, value: u32)
-    ensures { words.new ≡ pick on (put words.old at (value ∷ [])) words.old }
+// A number written at a place, where it is asked and the place lies in the area.
+fn write_at<T: Copy>(area: &mut [T], on: bool, at: usize, value: T)
+    ensures { area.new ≡ pick on (put area.old at (value ∷ [])) area.old }
 {
-    if on {
-        let one = [value];
-        areas::put_u32(words, at, &one);
-    }
-}
-
-// The same for a number with a sign.
-fn write_half(halves: &mut [i16], on: bool, at: usize, value: i16)
-    ensures { halves.new ≡ pick on (put halves.old at (value ∷ [])) halves.old }
-{
-    if on {
-        let one = [value];
-        areas::put_i16(halves, at, &one);
+    if on && at < area.len() {
+        area[at] = value;
     }
 }
 
@@ -78,8 +68,8 @@ pub fn write(c: Call, fogs: &mut [i16], words: &mut [u32], indices: &mut [u32], 
     let at = c.args.b as usize;
     let value = c.args.c;
     let half = numbers::signed::signed_half(script::half(value));
-    write_half(fogs, writes_to(c, 5), at, half);
-    write_word(words, writes_to(c, 7), at, value);
-    write_word(indices, writes_to(c, 8), at, value);
-    write_word(runs, writes_to(c, 9), at, value);
+    write_at(fogs, writes_to(c, 5), at, half);
+    write_at(words, writes_to(c, 7), at, value);
+    write_at(indices, writes_to(c, 8), at, value);
+    write_at(runs, writes_to(c, 9), at, value);
 }

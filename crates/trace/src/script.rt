@@ -1,8 +1,8 @@
 // Reads a script: words, and the op at a place with its arguments and data.
-ghost use Rattle.std.specs.Prelude.{◌≡◌, ◌%◌, ◌<◌, length, get_or};
-ghost use Rattle.trace.specs.Script.{word_at, args_of, size_of, data_of, cut_of, call_at, Ahead};
+ghost use Rattle.std.specs.Prelude.{◌≡◌, ◌%◌, ◌<◌, length, get_or, IfOk};
+ghost use Rattle.trace.specs.Script.{word_at, args_of, size_of, data_of, call_at, Ahead};
 
-use crate::ops::Shape;
+use crate::ops::{Cut, Op, Shape};
 
 // The seven words from an op's first argument on. An op reads as many as it has arguments.
 #[derive(Clone, Copy)]
@@ -16,28 +16,20 @@ pub struct Args {
     pub g: u32,
 }
 
-// An op. Its data are the bytes from `from` up to `to`, where the next op stands. It is not whole where the op is unknown
-// or the script ends before it does; then the rest of the script is skipped.
+// An op. Its data are the bytes from `from` up to `to`, where the next op stands.
 #[derive(Clone, Copy)]
 pub struct Call {
-    pub whole: bool,
-    pub op: u8,
+    pub op: Op,
     pub args: Args,
     pub from: usize,
     pub to: usize,
 }
 
-fn wide(x: u8) -> u32
-    ensures { (result ≡ x) × (result < 256) }
-{
-    x as u32
-}
-
 // The byte at `at`, 0 past the end.
-fn byte(s: &[u8], at: usize) -> u32
-    ensures { (result ≡ get_or s.now at 0) × (result < 256) }
+fn byte(s: &[u8], at: usize) -> u8
+    ensures { result ≡ get_or s.now at 0 }
 {
-    if at < s.len() { wide(s[at]) } else { 0 }
+    s.get(at).copied().unwrap_or(0)
 }
 
 // Word k.
@@ -45,7 +37,7 @@ pub fn word(s: &[u8], k: u8) -> u32
     ensures { result ≡ word_at s.now k }
 {
     let at = (k as usize) * 4;
-    byte(s, at) + byte(s, at + 1) * 256 + byte(s, at + 2) * 65536 + byte(s, at + 3) * 16777216
+    u32::from_le_bytes([byte(s, at), byte(s, at + 1), byte(s, at + 2), byte(s, at + 3)])
 }
 
 // The low 8 bits.
@@ -95,45 +87,28 @@ fn data_of(h: Shape, s: &[u8]) -> usize
     }
 }
 
-// An op that is not whole, in a script of n bytes.
-fn cut(op: u8, args: Args, n: usize) -> Call
-    ensures { result ≡ cut_of op args n }
-{
-    Call {
-        whole: false,
-        op: op,
-        args: args,
-        from: n,
-        to: n,
-    }
-}
-
-// The op at `at`, of the shape h.
-pub fn call_at(h: Shape, s: &[u8], at: usize) -> Call
+// The op at `at`.
+pub fn call_at(s: &[u8], at: usize) -> Result<Call, Cut>
     requires { at < length s.now }
-    ensures value { result ≡ call_at h s.now at }
-    ensures ahead { Ahead at (length s.now) result }
+    ensures value { result ≡ call_at s.now at }
+    ensures ahead { IfOk result (Ahead at (length s.now)) }
 {
-    let op = s[at];
+    let op = Op::try_from(s[at])?;
+    let h = op.shape();
     let rest = &s[at + 1..];
-    let args = args_of(rest);
     let size = size_of(h);
-    if !h.known {
-        return cut(op, args, s.len());
-    }
     if rest.len() < size {
-        return cut(op, args, s.len());
+        return Err(Cut::Short);
     }
     let n = data_of(h, rest);
     if rest.len() - size < n {
-        return cut(op, args, s.len());
+        return Err(Cut::Short);
     }
     let from = at + 1 + size;
-    Call {
-        whole: true,
-        op: op,
-        args: args,
-        from: from,
+    Ok(Call {
+        op,
+        args: args_of(rest),
+        from,
         to: from + n,
-    }
+    })
 }

@@ -1,13 +1,14 @@
 -- `trace::act::lent_after` meets its contract. Assumes nothing.
-use borrow.Author.Tests.{eq-eqb, ne_eqb}
 use Rattle.numbers.specs.Choice.{pick}
+use Rattle.trace.specs.declared.ops.Op.TheVariants.{Lend}
 use Rattle.trace.specs.Acts.{lent_after}
+use Rattle.trace.proofs.Shapes.{other}
 use Rattle.trace.proofs.act.lent_after.Goals as goal
 
-pub returns-then-c-eq-LEND : goal.returns-then-c-eq-LEND
+pub returns-in-Lend : goal.returns-in-Lend
 unfolding lent_after pick
-returns-then-c-eq-LEND c = rw (eq-eqb _ _ c.if-c-eq-LEND.true) c.with_length.ensures
+returns-in-Lend c = rw c.in-Lend.is c.with_length.ensures
 
-pub returns-else-c-eq-LEND : goal.returns-else-c-eq-LEND
+pub returns-in_default : goal.returns-in_default
 unfolding lent_after pick
-returns-else-c-eq-LEND c = rw (ne_eqb _ _ c.if-c-eq-LEND.false)
+returns-in_default c = rw (other c.args.c.op Lend c.in_default.not-Lend)

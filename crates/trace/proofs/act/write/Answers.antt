@@ -7,8 +7,8 @@ use Rattle.trace.proofs.act.write.Goals as goal
 pub returns : goal.returns
 unfolding written_to
 returns c = record {
-  fogs_after = rw (c.write_half.ensures, c.writes_to.ensures, handed w16 c.signed_half-half.type_inv c.signed_half-half.ensures, c.half.ensures);
-  words_after = rw (c.write_word.ensures, c.writes_to-2.ensures);
-  indices_after = rw (c.write_word-2.ensures, c.writes_to-3.ensures);
-  runs_after = rw (c.write_word-3.ensures, c.writes_to-4.ensures);
+  fogs_after = rw (c.write_at.ensures, c.writes_to.ensures, handed w16 c.signed_half-half.type_inv c.signed_half-half.ensures, c.half.ensures);
+  words_after = rw (c.write_at-2.ensures, c.writes_to-2.ensures);
+  indices_after = rw (c.write_at-3.ensures, c.writes_to-3.ensures);
+  runs_after = rw (c.write_at-4.ensures, c.writes_to-4.ensures);
 }

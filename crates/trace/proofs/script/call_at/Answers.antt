@@ -1,36 +1,46 @@
 -- `trace::script::call_at` meets its contract. Assumes nothing.
 use native.Mathlib.Omega.{arith}
+use mathlib.Core.Path.{◌≡◌, sym, ◌∙◌}
 use Prim.Native.Nat.{◌+◌}
-use borrow.Author.Tests.{not-true, not-false}
 use lib.ListN.{length-drop}
-use Rattle.trace.proofs.Reading.{tail-is, as_read, unknown, short-words, short-data, all_there}
+use borrow.Author.Rules.{rules}
+use Rattle.std.specs.Prelude.{Ok, Err}
+use Rattle.trace.specs.Script.{read_as}
+use Rattle.trace.proofs.Reading.{tail-is, known, short-words, short-data, all_there}
 use Rattle.trace.proofs.script.call_at.Goals as goal
 
-pub returns-then-not-h : goal.returns-then-not-h
-returns-then-not-h c =
-    let a = c.args in
-    let r = as_read a.h a.s.now a.at c.requires (rw (c.cut.ensures, c.args_of-args.ensures, tail-is a.s.now (a.at + 1)) (unknown a.h a.s.now a.at (not-true _ c.if-not-h.true))) in
-    record { value = r.0; ahead = r.1 }
+pub returns-in_err-op-clause-value : goal.returns-in_err-op-clause-value
+unfolding read_as
+returns-in_err-op-clause-value c =
+    let e = c.in_err-op.field-0.0 in
+    let h : c.from_residual.result ≡ Err e = search rules in
+    h ∙ known c.args.s.now c.args.at (Err e) (sym c.in_err-op.was ∙ c.try_from.ensures)
 
-pub returns-then-rest-size : goal.returns-then-rest-size
-returns-then-rest-size c =
+pub returns-then-rest-size-clause-value : goal.returns-then-rest-size-clause-value
+returns-then-rest-size-clause-value c =
     let a = c.args in
-    let z = c.size_of-size in
-    let r = as_read a.h a.s.now a.at c.requires (rw (c.cut-then-rest-size.ensures, c.args_of-args.ensures, tail-is a.s.now (a.at + 1)) (short-words a.h a.s.now a.at (not-false _ c.if-not-h.false) (omega (arith, z.ensures, length-drop (a.at + 1) a.s.now)))) in
-    record { value = r.0; ahead = r.1 }
+    let o = c.in_ok-op.op in
+    let h = c.shape-h.ensures in
+    let z = c.size_of-size.ensures in
+    short-words o a.s.now a.at (omega (arith, rw h at z, c.if-rest-size.true, length-drop (a.at + 1) a.s.now))
+    ∙ known a.s.now a.at (Ok o) (sym c.in_ok-op.was ∙ c.try_from.ensures)
 
-pub returns-then-rest-size-2 : goal.returns-then-rest-size-2
-returns-then-rest-size-2 c =
+pub returns-then-rest-size-2-clause-value : goal.returns-then-rest-size-2-clause-value
+returns-then-rest-size-2-clause-value c =
     let a = c.args in
-    let z = c.size_of-size in
-    let n = c.data_of-n in
-    let r = as_read a.h a.s.now a.at c.requires (rw (c.cut-then-rest-size-2.ensures, c.args_of-args.ensures, tail-is a.s.now (a.at + 1)) (short-data a.h a.s.now a.at (not-false _ c.if-not-h.false) (omega (arith, z.ensures, length-drop (a.at + 1) a.s.now)) (omega (arith, z.ensures, rw (tail-is a.s.now (a.at + 1)) at n.ensures, length-drop (a.at + 1) a.s.now)))) in
-    record { value = r.0; ahead = r.1 }
+    let o = c.in_ok-op.op in
+    let h = c.shape-h.ensures in
+    let z = rw h at c.size_of-size.ensures in
+    let n = rw (h, tail-is a.s.now (a.at + 1)) at c.data_of-n.ensures in
+    short-data o a.s.now a.at (omega (arith, z, length-drop (a.at + 1) a.s.now)) (omega (arith, z, n, length-drop (a.at + 1) a.s.now))
+    ∙ known a.s.now a.at (Ok o) (sym c.in_ok-op.was ∙ c.try_from.ensures)
 
-pub returns : goal.returns
-returns c =
+pub returns-clause-value : goal.returns-clause-value
+returns-clause-value c =
     let a = c.args in
-    let z = c.size_of-size in
-    let n = c.data_of-n in
-    let r = as_read a.h a.s.now a.at c.requires (rw (c.args_of-args.ensures, z.ensures, n.ensures, tail-is a.s.now (a.at + 1)) (all_there a.h a.s.now a.at (not-false _ c.if-not-h.false) (omega (arith, z.ensures, length-drop (a.at + 1) a.s.now)) (omega (arith, z.ensures, rw (tail-is a.s.now (a.at + 1)) at n.ensures, length-drop (a.at + 1) a.s.now)))) in
-    record { value = r.0; ahead = r.1 }
+    let o = c.in_ok-op.op in
+    let h = c.shape-h.ensures in
+    let z = rw h at c.size_of-size.ensures in
+    let n = rw (h, tail-is a.s.now (a.at + 1)) at c.data_of-n.ensures in
+    rw (c.args_of.ensures, z, n, tail-is a.s.now (a.at + 1)) (all_there o a.s.now a.at (omega (arith, z, length-drop (a.at + 1) a.s.now)) (omega (arith, z, n, length-drop (a.at + 1) a.s.now)))
+    ∙ known a.s.now a.at (Ok o) (sym c.in_ok-op.was ∙ c.try_from.ensures)

@@ -1,8 +1,0 @@
--- `trace::script::byte` meets its contract. Assumes nothing.
-use native.Mathlib.Omega.{arith}
-use mathlib.Core.Path.{sym}
-use lib.ListN.{get_or-eq_default}
-use Rattle.trace.proofs.script.byte.Goals as goal
-
-pub returns-else-at-s : goal.returns-else-at-s
-returns-else-at-s c = (sym (get_or-eq_default c.args.s.now 0 c.if-at-s.false), omega arith)
