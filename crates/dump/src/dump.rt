@@ -1,189 +1,103 @@
 // The dump: the state, the entries in use, the slots, and a hash of each area.
 use crate::{hash, show, slots, tables};
-use stage::{Counts, Lights, Lookat, State};
+use stage::{Counts, State};
 use std::io;
 
-fn settings(out: &impl Print, s: State) -> io::Result<()> {
-    show::text(out, b"state")?;
-    show::word(out, s.depth)?;
-    show::word(out, s.geometry)?;
-    show::octet(out, s.microcode)?;
-    show::truth(out, s.defined)?;
-    show::octet(out, s.texture.tile)?;
-    show::octet(out, s.texture.level)?;
-    show::truth(out, s.texture.on)?;
-    show::half(out, s.texture.sc)?;
-    show::half(out, s.texture.tc)?;
-    show::signed(out, s.fogmul)?;
-    show::signed(out, s.fogoff)?;
-    show::word(out, s.lights.number)?;
-    show::end(out)
+// The areas of the tables, lent or not; those of table 7 are `floats` and `words`.
+#[derive(Clone, Copy)]
+struct Areas<'a> {
+    matrices: &'a [f32],
+    viewports: &'a [f32],
+    scales: &'a [f32],
+    lights: &'a [f32],
+    lookats: &'a [f32],
+    fogs: &'a [i16],
+    floats: &'a [f32],
+    words: &'a [u32],
+    indices: &'a [u32],
+    runs: &'a [u32],
+}
+
+impl Areas<'_> {
+    // The entries in use of each table.
+    fn tables(self, out: &impl Print, c: Counts) -> io::Result<()> {
+        tables::entries(out, "t1", self.matrices, 16, c.matrices)?;
+        tables::entries(out, "t2", self.viewports, 6, c.viewports)?;
+        tables::entries(out, "t3", self.scales, 4, c.scales)?;
+        tables::entries(out, "t4", self.lights, 6, c.lights)?;
+        tables::entries(out, "t5", self.lookats, 6, c.lookats)?;
+        tables::entries(out, "t6", self.fogs, 2, c.fogs)?;
+        tables::rows(out, self.floats, self.words, c.rows)?;
+        tables::entries(out, "t8", self.indices, 1, c.indices)?;
+        tables::entries(out, "t9", self.runs, 8, c.runs)
+    }
+
+    // The hash of each area.
+    fn hashes(self, out: &impl Print) -> io::Result<()> {
+        let hashes = [
+            hash::of(self.matrices),
+            hash::of(self.viewports),
+            hash::of(self.scales),
+            hash::of(self.lights),
+            hash::of(self.lookats),
+            hash::of(self.fogs),
+            hash::of(self.floats),
+            hash::of(self.words),
+            hash::of(self.indices),
+            hash::of(self.runs),
+        ];
+        for (k, h) in hashes.iter().enumerate() {
+            println!(out; "area {k} {h}")?;
+        }
+        Ok(())
+    }
+}
+
+fn settings(out: &impl Print, s: &State) -> io::Result<()> {
+    let defined = s.defined as u8;
+    let texture = s.texture;
+    let on = texture.on as u8;
+    print!(out;
+        "state {} {} {} {defined}",
+        s.depth, s.geometry, s.microcode
+    )?;
+    print!(out;
+        " {} {} {on} {} {}",
+        texture.tile, texture.level, texture.sc, texture.tc
+    )?;
+    println!(out; " {} {} {}", s.fogmul, s.fogoff, s.lights.number)
 }
 
 fn line(out: &impl Print, name: &[u8], xs: &[f32]) -> io::Result<()> {
     show::text(out, name)?;
-    tables::singles(out, xs, 0, xs.len())?;
-    show::end(out)
-}
-
-fn view_lines(out: &impl Print, projection: [f32; 16], viewport: [f32; 6]) -> io::Result<()> {
-    line(out, b"proj", &projection)?;
-    line(out, b"vp", &viewport)
+    show::row(out, xs)?;
+    println!(out)
 }
 
 // A light's direction and its colour.
-fn light_lines(out: &impl Print, directions: [f32; 24], colours: [f32; 24]) -> io::Result<()> {
-    let mut at = 0;
-    let mut k: u32 = 0;
-    while k < 8 {
-        show::entry(out, b"light", k)?;
-        tables::singles(out, &directions, at, 3)?;
-        at = tables::singles(out, &colours, at, 3)?;
-        show::end(out)?;
-        k = k + 1;
+fn lights(out: &impl Print, directions: &[f32], colours: &[f32]) -> io::Result<()> {
+    let both = directions.chunks_exact(3).zip(colours.chunks_exact(3));
+    for (k, (direction, colour)) in both.enumerate() {
+        print!(out; "light {k}")?;
+        show::row(out, direction)?;
+        show::row(out, colour)?;
+        println!(out)?;
     }
     Ok(())
-}
-
-fn ambient_line(out: &impl Print, ambient: [f32; 3]) -> io::Result<()> {
-    line(out, b"ambient", &ambient)
-}
-
-fn lookat_lines(out: &impl Print, l: Lookat) -> io::Result<()> {
-    let axes = l.axes;
-    tables::of_singles(out, b"look", &axes, 3, 2)
 }
 
 // The state's own lines. Of a stack deeper than 32 there are 32 matrices.
-fn state_lines(out: &impl Print, s: State) -> io::Result<()> {
-    let stack = s.stack;
-    let projection = s.projection;
-    let viewport = s.viewport;
-    let directions = s.lights.directions;
-    let colours = s.lights.colours;
-    let ambient = s.lights.ambient;
+fn state(out: &impl Print, s: &State) -> io::Result<()> {
     settings(out, s)?;
-    tables::of_singles(out, b"stack", &stack, 16, s.depth)?;
-    view_lines(out, projection, viewport)?;
-    light_lines(out, directions, colours)?;
-    ambient_line(out, ambient)?;
-    lookat_lines(out, s.lookat)
+    tables::entries(out, "stack", &s.stack, 16, s.depth)?;
+    line(out, b"proj", &s.projection)?;
+    line(out, b"vp", &s.viewport)?;
+    lights(out, &s.lights.directions, &s.lights.colours)?;
+    line(out, b"ambient", &s.lights.ambient)?;
+    tables::entries(out, "look", &s.lookat.axes, 3, 2)
 }
 
-// What is written before the tables.
-fn head(out: &impl Print, s: State) -> io::Result<()> {
-    show::text(out, b"end\nopen")?;
-    show::truth(out, s.opened)?;
-    show::end(out)?;
-    if s.opened {
-        show::text(out, b"counts")?;
-        show::counts(out, s.counts)?;
-        show::end(out)?;
-        state_lines(out, s)?;
-    }
-    Ok(())
-}
-
-// The counts that are shown: before the opening there are no entries.
-fn shown(s: State) -> Counts {
-    if s.opened {
-        s.counts
-    } else {
-        Counts {
-            matrices: 0,
-            viewports: 0,
-            scales: 0,
-            lights: 0,
-            lookats: 0,
-            fogs: 0,
-            rows: 0,
-            indices: 0,
-            runs: 0,
-        }
-    }
-}
-
-// The entries in use of tables 1 to 5.
-fn early_tables(
-    out: &impl Print,
-    c: Counts,
-    matrices: &[f32],
-    viewports: &[f32],
-    scales: &[f32],
-    lights: &[f32],
-    lookats: &[f32],
-) -> io::Result<()> {
-    tables::of_singles(out, b"t1", matrices, 16, c.matrices)?;
-    tables::of_singles(out, b"t2", viewports, 6, c.viewports)?;
-    tables::of_singles(out, b"t3", scales, 4, c.scales)?;
-    tables::of_singles(out, b"t4", lights, 6, c.lights)?;
-    tables::of_singles(out, b"t5", lookats, 6, c.lookats)
-}
-
-// Those of tables 6 to 9.
-fn late_tables(
-    out: &impl Print,
-    c: Counts,
-    fogs: &[i16],
-    floats: &[f32],
-    words: &[u32],
-    indices: &[u32],
-    runs: &[u32],
-) -> io::Result<()> {
-    tables::of_halves(out, b"t6", fogs, 2, c.fogs)?;
-    tables::of_rows(
-        out,
-        b"t7",
-        floats,
-        vertex::FLOATS,
-        words,
-        vertex::WORDS,
-        c.rows,
-    )?;
-    tables::of_words(out, b"t8", indices, 1, c.indices)?;
-    tables::of_words(out, b"t9", runs, 8, c.runs)
-}
-
-fn area(out: &impl Print, k: u32, h: u64) -> io::Result<()> {
-    show::entry(out, b"area", k)?;
-    show::text(out, b" ")?;
-    out.print(h)?;
-    show::end(out)
-}
-
-// The hash of each area of tables 1 to 5, lent or not.
-fn early_areas(
-    out: &impl Print,
-    matrices: &[f32],
-    viewports: &[f32],
-    scales: &[f32],
-    lights: &[f32],
-    lookats: &[f32],
-) -> io::Result<()> {
-    area(out, 0, hash::of_singles(matrices))?;
-    area(out, 1, hash::of_singles(viewports))?;
-    area(out, 2, hash::of_singles(scales))?;
-    area(out, 3, hash::of_singles(lights))?;
-    area(out, 4, hash::of_singles(lookats))
-}
-
-// The same for tables 6 to 9.
-fn late_areas(
-    out: &impl Print,
-    fogs: &[i16],
-    floats: &[f32],
-    words: &[u32],
-    indices: &[u32],
-    runs: &[u32],
-) -> io::Result<()> {
-    area(out, 5, hash::of_halves(fogs))?;
-    area(out, 6, hash::of_singles(floats))?;
-    area(out, 7, hash::of_words(words))?;
-    area(out, 8, hash::of_words(indices))?;
-    area(out, 9, hash::of_words(runs))
-}
-
-// Writes the dump.
+// Writes the dump. Before the opening there is no state and no entry.
 pub fn write(
     out: &impl Print,
     s: State,
@@ -198,11 +112,28 @@ pub fn write(
     indices: &[u32],
     runs: &[u32],
 ) -> io::Result<()> {
-    let c = shown(s);
-    head(out, s)?;
-    early_tables(out, c, matrices, viewports, scales, lights, lookats)?;
-    late_tables(out, c, fogs, floats, words, indices, runs)?;
-    slots::lines(out, s)?;
-    early_areas(out, matrices, viewports, scales, lights, lookats)?;
-    late_areas(out, fogs, floats, words, indices, runs)
+    let areas = Areas {
+        matrices,
+        viewports,
+        scales,
+        lights,
+        lookats,
+        fogs,
+        floats,
+        words,
+        indices,
+        runs,
+    };
+    show::text(out, b"end\n")?;
+    if s.opened {
+        show::text(out, b"open 1\ncounts")?;
+        show::counts(out, s.counts)?;
+        show::text(out, b"\n")?;
+        state(out, &s)?;
+        areas.tables(out, s.counts)?;
+        slots::lines(out, &s)?;
+    } else {
+        show::text(out, b"open 0\n")?;
+    }
+    areas.hashes(out)
 }

@@ -1,9 +1,10 @@
-// Writes text to `out`, which is standard output, and complaints to `err`, standard error.
-ghost use Rattle.std.specs.Prelude.{◌≡◌, false, [], ◌∷◌, ◌<◌, take};
-ghost use Rattle.std.specs.Float.{binary32, binary64};
-ghost use Rattle.std.specs.Float.Ieee.{to_bits, ne};
+// Writes to `out`, which is standard output, and complaints to `err`, standard error.
+ghost use Rattle.std.specs.Prelude.{◌≡◌, ℕ};
+ghost use Rattle.std.specs.Float.{binary32};
+ghost use Rattle.std.specs.Float.Ieee.{to_bits};
 ghost use Rattle.std.proofs.Common.{of_z};
 ghost use Rattle.std.specs.Int.{w16};
+ghost use Rattle.std.specs.Fn.{FnOnceReturnsAt};
 ghost use Rattle.stage.specs.Answers.{number, values};
 
 use stage::{Answer, Counts};
@@ -14,98 +15,109 @@ pub fn text(out: &impl Print, s: &[u8]) -> io::Result<()> {
     out.write_all(s)
 }
 
-pub(crate) fn end(out: &impl Print) -> io::Result<()> {
-    text(out, b"\n")
+// A number as a value in a line, after a space: a float by the digits of its bits, or `nan`, and any other in decimal.
+pub(crate) trait Shown: Copy {
+    fn show(self, out: &impl Print) -> io::Result<()>;
 }
 
-pub(crate) fn decimal(out: &impl Print, n: u32) -> io::Result<()> {
-    out.print(n)
+// 1 for yes and 0 for no.
+impl Shown for bool {
+    fn show(self, out: &impl Print) -> io::Result<()> {
+        (self as u8).show(out)
+    }
 }
 
-// A number as a value in a line, after a space.
-pub(crate) fn word(out: &impl Print, n: u32) -> io::Result<()> {
-    text(out, b" ")?;
-    decimal(out, n)
+impl Shown for u8 {
+    fn show(self, out: &impl Print) -> io::Result<()> {
+        print!(out; " {self}")
+    }
 }
 
-// The same for narrower numbers.
-pub(crate) fn octet(out: &impl Print, n: u8) -> io::Result<()> {
-    word(out, n as u32)
+impl Shown for u32 {
+    fn show(self, out: &impl Print) -> io::Result<()> {
+        print!(out; " {self}")
+    }
 }
 
-pub(crate) fn half(out: &impl Print, n: u16) -> io::Result<()> {
-    word(out, n as u32)
+impl Shown for i16 {
+    fn show(self, out: &impl Print) -> io::Result<()> {
+        print!(out; " {self}")
+    }
 }
 
-// The start of the line of entry k.
-pub(crate) fn entry(out: &impl Print, name: &[u8], k: u32) -> io::Result<()> {
-    text(out, name)?;
-    word(out, k)
+impl Shown for f32 {
+    fn show(self, out: &impl Print) -> io::Result<()> {
+        if self.is_nan() {
+            return text(out, b" nan");
+        }
+        let bits = self.to_bits();
+        print!(out; " {bits:08x}")
+    }
 }
 
-pub(crate) fn truth(out: &impl Print, b: bool) -> io::Result<()> {
-    if b {
-        text(out, b" 1")
-    } else {
-        text(out, b" 0")
+impl Shown for f64 {
+    fn show(self, out: &impl Print) -> io::Result<()> {
+        if self.is_nan() {
+            return text(out, b" nan");
+        }
+        let bits = self.to_bits();
+        print!(out; " {bits:016x}")
+    }
+}
+
+// A number that there may be, or `-` for none.
+impl<T: Shown> Shown for Option<T> {
+    fn show(self, out: &impl Print) -> io::Result<()> {
+        match self {
+            Some(x) => x.show(out),
+            None => text(out, b" -"),
+        }
+    }
+}
+
+// A number of an area, as the word that its hash takes.
+pub(crate) trait Word: Shown {
+    ghost word: { Self → ℕ };
+
+    fn word(self) -> u32
+        ensures { result ≡ word self };
+}
+
+impl Word for u32 {
+    ghost word = { λ x. x };
+
+    fn word(self) -> u32 {
+        self
+    }
+}
+
+// The 16 bits of a number with a sign.
+impl Word for i16 {
+    ghost word = { of_z w16 };
+
+    fn word(self) -> u32 {
+        self.cast_unsigned() as u32
     }
 }
 
 // The bits of a float, those of one NaN for any NaN.
-pub(crate) fn bits(x: f32) -> u32
-    ensures { result ≡ to_bits binary32 x }
-{
-    if x != x { 0x7fc00000 } else { f32::to_bits(x) }
-}
+impl Word for f32 {
+    ghost word = { to_bits binary32 };
 
-// The same for f64.
-fn wide_bits(x: f64) -> u64
-    ensures { result ≡ to_bits binary64 x }
-{
-    if x != x {
-        0x7ff8000000000000
-    } else {
-        f64::to_bits(x)
+    fn word(self) -> u32 {
+        if self.is_nan() {
+            0x7fc00000
+        } else {
+            self.to_bits()
+        }
     }
 }
 
-// So many digits of a float's bits, or `nan`.
-fn hex(out: &impl Print, nan: bool, bits: u64, digits: usize) -> io::Result<()> {
-    if nan {
-        text(out, b" nan")
-    } else {
-        text(out, b" ")?;
-        print!(out; "{bits:0digits$x}")
+pub(crate) fn row<T: Shown>(out: &impl Print, xs: &[T]) -> io::Result<()> {
+    for x in xs {
+        x.show(out)?;
     }
-}
-
-pub(crate) fn single(out: &impl Print, x: f32) -> io::Result<()> {
-    hex(out, x != x, bits(x) as u64, 8)
-}
-
-pub(crate) fn double(out: &impl Print, x: f64) -> io::Result<()> {
-    hex(out, x != x, wide_bits(x), 16)
-}
-
-// The 16 bits of a number with a sign.
-pub(crate) fn pattern(x: i16) -> u32
-    ensures { (result ≡ of_z w16 x) × (result < 65536) }
-{
-    if x < 0 {
-        65535 - ((-1 - x) as u32)
-    } else {
-        x as u32
-    }
-}
-
-pub(crate) fn signed(out: &impl Print, x: i16) -> io::Result<()> {
-    let h = pattern(x);
-    if h < 32768 {
-        word(out, h)
-    } else {
-        text(out, b" -")?;
-        decimal(out, 65536 - h)
-    }
+    Ok(())
 }
 
 // The number of an answer (docs/REFERENCE.md 3).
@@ -130,140 +142,85 @@ fn number_of(a: Answer) -> u32
     }
 }
 
-// What is returned with the number: the first `count` of these.
-#[derive(Clone, Copy)]
-struct Values {
-    count: u8,
-    list: [u32; 5],
-}
-
-fn none() -> Values
-    ensures { take result.count result.list ≡ [] }
-{
-    Values {
-        count: 0,
-        list: [0, 0, 0, 0, 0],
-    }
-}
-
-fn one(x: u32) -> Values
-    ensures { take result.count result.list ≡ x ∷ [] }
-{
-    Values {
-        count: 1,
-        list: [x, 0, 0, 0, 0],
-    }
-}
-
-fn two(x: u32, y: u32) -> Values
-    ensures { take result.count result.list ≡ x ∷ y ∷ [] }
-{
-    Values {
-        count: 2,
-        list: [x, y, 0, 0, 0],
-    }
-}
-
-fn five(x: u32, y: u32, z: u32, t: u32, u: u32) -> Values
-    ensures { take result.count result.list ≡ x ∷ y ∷ z ∷ t ∷ u ∷ [] }
-{
-    Values {
-        count: 5,
-        list: [x, y, z, t, u],
-    }
-}
-
-fn values_of(a: Answer) -> Values
-    ensures { take result.count result.list ≡ values a }
+// Hands what is returned with the number to `f`.
+fn with_values<R, F: FnOnce(&[u32]) -> R>(a: Answer, f: F) -> R
+    requires { F.IsAlwaysCallable f }
+    ensures { FnOnceReturnsAt F.FnOnce f (values a) result }
 {
     match a {
-        Answer::Done => none(),
-        Answer::Told(n) => one(n),
-        Answer::AllOutside(plane) => two(1, plane),
-        Answer::FirstInside(left, right, bottom, top) => five(0, left, right, bottom, top),
-        Answer::BadLoad(count, first) => two(count, first),
-        Answer::BadCull(first, last) => two(first, last),
-        Answer::NotLoaded(slot) => one(slot),
-        Answer::NoCode(slot) => one(slot),
-        Answer::BadModify(slot, attribute) => two(slot, attribute),
-        Answer::NeverLoaded(slot) => one(slot),
-        Answer::ShortData(length) => one(length),
-        Answer::ShortArea(table) => one(table),
-        Answer::NoRoom(table) => one(table),
-        Answer::BadState => none(),
+        Answer::Done => f(&[]),
+        Answer::Told(n) => f(&[n]),
+        Answer::AllOutside(plane) => f(&[1, plane]),
+        Answer::FirstInside(left, right, bottom, top) => f(&[0, left, right, bottom, top]),
+        Answer::BadLoad(count, first) => f(&[count, first]),
+        Answer::BadCull(first, last) => f(&[first, last]),
+        Answer::NotLoaded(slot) => f(&[slot]),
+        Answer::NoCode(slot) => f(&[slot]),
+        Answer::BadModify(slot, attribute) => f(&[slot, attribute]),
+        Answer::NeverLoaded(slot) => f(&[slot]),
+        Answer::ShortData(length) => f(&[length]),
+        Answer::ShortArea(table) => f(&[table]),
+        Answer::NoRoom(table) => f(&[table]),
+        Answer::BadState => f(&[]),
     }
-}
-
-fn print_values(out: &impl Print, v: Values) -> io::Result<()> {
-    let list = v.list;
-    for k in 0..5 {
-        if (k as u8) < v.count {
-            word(out, list[k])?;
-        }
-    }
-    Ok(())
-}
-
-// The place of the next space, or the end.
-fn space(names: &[u8], at: usize) -> usize {
-    let mut k = at;
-    while k < names.len() {
-        if names[k] == b' ' {
-            return k;
-        }
-        k = k + 1;
-    }
-    k
-}
-
-// The name that has n others before it, each after a space and filled up to nine bytes.
-fn name(out: &impl Print, names: &[u8], n: u8) -> io::Result<()> {
-    let from = (n as usize) * 9;
-    let to = space(names, from + 1);
-    if to < from {
-        return Ok(());
-    }
-    if to <= names.len() {
-        text(out, &names[from..to])?;
-    }
-    Ok(())
 }
 
 // The name of an op: a command, of which there is no number 0 and no 0x13, or an act of the driver.
-fn command(out: &impl Print, op: u8) -> io::Result<()> {
-    if op < ops::LEND {
-        name(
-            out,
-            b" none     open     matrix   force    pop      geom     viewport texture  fog      lightnum light    lookat   load     cull     depth    modify   draw     ucode    ink      none     explain",
-            op,
-        )
-    } else {
-        name(out, b" lend     mark     poke     write", op - ops::LEND)
+fn name_of(op: u8) -> &'static str {
+    match op {
+        ops::OPEN => " open",
+        ops::MATRIX => " matrix",
+        ops::FORCE => " force",
+        ops::POP => " pop",
+        ops::GEOM => " geom",
+        ops::VIEWPORT => " viewport",
+        ops::TEXTURE => " texture",
+        ops::FOG => " fog",
+        ops::LIGHTNUM => " lightnum",
+        ops::LIGHT => " light",
+        ops::LOOKAT => " lookat",
+        ops::LOAD => " load",
+        ops::CULL => " cull",
+        ops::DEPTH => " depth",
+        ops::MODIFY => " modify",
+        ops::DRAW => " draw",
+        ops::UCODE => " ucode",
+        ops::INK => " ink",
+        ops::EXPLAIN => " explain",
+        ops::LEND => " lend",
+        ops::MARK => " mark",
+        ops::POKE => " poke",
+        ops::WRITE => " write",
+        0 | 0x13 => " none",
+        _ => "",
     }
 }
 
 pub(crate) fn counts(out: &impl Print, c: Counts) -> io::Result<()> {
-    word(out, c.matrices)?;
-    word(out, c.viewports)?;
-    word(out, c.scales)?;
-    word(out, c.lights)?;
-    word(out, c.lookats)?;
-    word(out, c.fogs)?;
-    word(out, c.rows)?;
-    word(out, c.indices)?;
-    word(out, c.runs)
+    let counts = [
+        c.matrices,
+        c.viewports,
+        c.scales,
+        c.lights,
+        c.lookats,
+        c.fogs,
+        c.rows,
+        c.indices,
+        c.runs,
+    ];
+    row(out, &counts)
 }
 
 // The line of op number i; `mark` shows the counts.
 pub fn answered(out: &impl Print, i: usize, op: u8, a: Answer, c: Counts) -> io::Result<()> {
-    out.print(i)?;
-    command(out, op)?;
-    word(out, number_of(a))?;
-    print_values(out, values_of(a))?;
+    let name = name_of(op);
+    let number = number_of(a);
+    print!(out; "{i}{name} {number}")?;
+    with_values(a, |values| row(out, values))?;
     if op == ops::MARK {
         counts(out, c)?;
     }
-    end(out)
+    println!(out)
 }
 
 // A sentence on standard error: why a trace is not replayed, or not to its end.
@@ -272,32 +229,12 @@ pub fn complain(err: &impl Print, s: &[u8]) -> io::Result<()> {
     err.write_all(s)
 }
 
-// The end of such a sentence: a number, and what comes behind it.
-fn number_then(err: &impl Print, n: usize, s: &[u8]) -> io::Result<()> {
-    err.print(n)?;
-    err.write_all(s)
-}
-
 pub fn too_long(err: &impl Print, most: usize) -> io::Result<()> {
-    complain(err, b"the trace is longer than ")?;
-    number_then(err, most, b" bytes\n")
+    println!(err; "replay: the trace is longer than {most} bytes")
 }
 
 // The script stops at op number i, at the byte `at`, which is an op that is cut short, or none.
 pub fn stopped(err: &impl Print, i: usize, at: usize, known: bool) -> io::Result<()> {
-    complain(err, b"op ")?;
-    number_then(err, i, b", at byte ")?;
-    if known {
-        number_then(
-            err,
-            at,
-            b", is cut short; it and what follows was not replayed\n",
-        )
-    } else {
-        number_then(
-            err,
-            at,
-            b", is unknown; it and what follows was not replayed\n",
-        )
-    }
+    let why = if known { "cut short" } else { "unknown" };
+    println!(err; "replay: op {i}, at byte {at}, is {why}; it and what follows was not replayed")
 }

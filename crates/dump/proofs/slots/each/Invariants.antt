@@ -1,8 +1,0 @@
-use Rattle.std.proofs.Common.{◌-◌, ◌≤◌}
-use Rattle.dump.proofs.slots.each.Given as goal
-
-abbrev pub invariant-loop-k : goal.invariant-loop-k
-invariant-loop-k g l = l.k ≤ 256
-
-abbrev pub decreases-loop-k : goal.decreases-loop-k
-decreases-loop-k g l = 256 - l.k
