@@ -8,6 +8,7 @@ mod apply;
 mod script;
 mod show;
 
+use script::Function;
 use std::io;
 use std::io::Read;
 
@@ -20,16 +21,16 @@ fn step(out: &impl Print, s: &[u8], at: usize) -> io::Result<usize>
     ensures { IfOk result (λ next. (at < next) × (next ≤ length s.now)) }
 {
     let op = s[at];
-    let size = 4 * script::words_of(op);
-    if size == 0 {
+    let Ok(function) = Function::try_from(op) else {
         show::unknown(out, op, at)?;
         return Ok(s.len());
-    }
+    };
+    let size = 4 * function.words();
     if size >= s.len() - at {
         show::cut_short(out, at)?;
         return Ok(s.len());
     }
-    apply::run(out, op, &s[at + 1..at + 1 + size])?;
+    apply::run(out, function, &s[at + 1..at + 1 + size])?;
     Ok(at + 1 + size)
 }
 
@@ -42,7 +43,8 @@ fn run(out: &impl Print, s: &[u8]) -> io::Result<()> {
     Ok(())
 }
 
-// Reads until the end of the input, or until there is no more room, and answers how many bytes it read.
+// Reads until the end of the input, or until there is no more room, and answers how many bytes it read. Not `io::copy` into
+// the slice: of an input whose bytes are not known beforehand its contract gives no count.
 fn read_full(from: &mut impl Read, bytes: &mut [u8]) -> io::Result<usize>
     ensures { IfOk result (λ n. n ≤ length bytes.new) }
 {

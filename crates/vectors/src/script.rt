@@ -1,95 +1,114 @@
 // The script: records one after the other, each a byte that names a function and then its arguments in words of 32 bits,
 // low byte first. A float is given by its bits, an f64 by two words, the low one first.
-ghost use Rattle.std.specs.Prelude.{◌≡◌, ◌%◌, ◌<◌, ◌≤◌, get_or};
+ghost use Rattle.std.specs.Prelude.{◌≡◌, ◌%◌, ◌≤◌, get_or};
 ghost use Rattle.vectors.specs.Script.{word_at, long_at, float_at, double_at, row_at, matrix_at};
 
-// The functions by their numbers, in the order of make.py.
-pub const SIGNED_HALF: u8 = 1;
+// The functions that a script can name.
+#[derive(Clone, Copy)]
+pub enum Function {
+    SignedHalf,
+    SignedByte,
+    WholeHalf,
+    WholeByte,
+    By4,
+    By32,
+    By1024,
+    By127,
+    By255,
+    By65536,
+    By2097152,
+    By67108864,
+    SqrtF32,
+    WideBy65536,
+    F64FromF32,
+    IsFiniteF32,
+    IsFiniteF64,
+    MatrixEntry,
+    Length,
+    InverseLength,
+    ClipCode,
+    ScreenZ,
+    MulRowVec4,
+    MulColVec3,
+    Mul4,
+}
 
-pub const SIGNED_BYTE: u8 = 2;
+// A byte that names none.
+#[derive(Clone, Copy)]
+pub struct Unknown;
 
-pub const WHOLE_HALF: u8 = 3;
+// The numbers are the places in make.py, from 1 on.
+impl TryFrom<u8> for Function {
+    type Error = Unknown;
 
-pub const WHOLE_BYTE: u8 = 4;
-
-pub const BY_4: u8 = 5;
-
-pub const BY_32: u8 = 6;
-
-pub const BY_1024: u8 = 7;
-
-pub const BY_127: u8 = 8;
-
-pub const BY_255: u8 = 9;
-
-pub const BY_65536: u8 = 10;
-
-pub const BY_2097152: u8 = 11;
-
-pub const BY_67108864: u8 = 12;
-
-pub const SQRT_F32: u8 = 13;
-
-pub const WIDE_BY_65536: u8 = 14;
-
-pub const F64_FROM_F32: u8 = 15;
-
-pub const IS_FINITE_F32: u8 = 16;
-
-pub const IS_FINITE_F64: u8 = 17;
-
-pub const MATRIX_ENTRY: u8 = 18;
-
-pub const LENGTH: u8 = 19;
-
-pub const INVERSE_LENGTH: u8 = 20;
-
-pub const CLIP_CODE: u8 = 21;
-
-pub const SCREEN_Z: u8 = 22;
-
-pub const MUL_ROW_VEC4: u8 = 23;
-
-pub const MUL_COL_VEC3: u8 = 24;
-
-pub const MUL4: u8 = 25;
-
-// How many words the function takes, or 0 where the byte names none.
-pub fn words_of(op: u8) -> usize
-    ensures { result ≤ 32 }
-{
-    match op {
-        SIGNED_HALF..=IS_FINITE_F32 => 1,
-        IS_FINITE_F64 | MATRIX_ENTRY => 2,
-        LENGTH | INVERSE_LENGTH => 3,
-        CLIP_CODE => 4,
-        SCREEN_Z => 7,
-        MUL_ROW_VEC4 => 20,
-        MUL_COL_VEC3 => 19,
-        MUL4 => 32,
-        _ => 0,
+    fn try_from(op: u8) -> Result<Function, Unknown> {
+        Ok(match op {
+            1 => Function::SignedHalf,
+            2 => Function::SignedByte,
+            3 => Function::WholeHalf,
+            4 => Function::WholeByte,
+            5 => Function::By4,
+            6 => Function::By32,
+            7 => Function::By1024,
+            8 => Function::By127,
+            9 => Function::By255,
+            10 => Function::By65536,
+            11 => Function::By2097152,
+            12 => Function::By67108864,
+            13 => Function::SqrtF32,
+            14 => Function::WideBy65536,
+            15 => Function::F64FromF32,
+            16 => Function::IsFiniteF32,
+            17 => Function::IsFiniteF64,
+            18 => Function::MatrixEntry,
+            19 => Function::Length,
+            20 => Function::InverseLength,
+            21 => Function::ClipCode,
+            22 => Function::ScreenZ,
+            23 => Function::MulRowVec4,
+            24 => Function::MulColVec3,
+            25 => Function::Mul4,
+            _ => return Err(Unknown),
+        })
     }
 }
 
-fn wide(x: u8) -> u32
-    ensures { (result ≡ x) × (result < 256) }
-{
-    x as u32
+impl Function {
+    // How many words the function takes.
+    pub fn words(self) -> usize
+        ensures { result ≤ 32 }
+    {
+        match self {
+            Function::IsFiniteF64 | Function::MatrixEntry => 2,
+            Function::Length | Function::InverseLength => 3,
+            Function::ClipCode => 4,
+            Function::ScreenZ => 7,
+            Function::MulRowVec4 => 20,
+            Function::MulColVec3 => 19,
+            Function::Mul4 => 32,
+            _ => 1,
+        }
+    }
 }
 
 // The byte at `at`, 0 past the end.
-fn byte(s: &[u8], at: usize) -> u32
-    ensures { (result ≡ get_or s.now at 0) × (result < 256) }
+fn byte(s: &[u8], at: usize) -> u8
+    ensures { result ≡ get_or s.now at 0 }
 {
-    if at < s.len() { wide(s[at]) } else { 0 }
+    s.get(at).copied().unwrap_or(0)
 }
 
 // Word k.
 pub fn word(s: &[u8], k: u8) -> u32
     ensures { result ≡ word_at s.now k }
 {
-    let at = (k as usize) * 4;
-    byte(s, at) + byte(s, at + 1) * 256 + byte(s, at + 2) * 65536 + byte(s, at + 3) * 16777216
+    let at = usize::from(k) * 4;
+    u32::from_le_bytes([
+        byte(s, at),
+        byte(s, at + 1),
+        byte(s, at + 2),
+        byte(s, at + 3),
+    ])
 }
 
 // The low 16 bits of word k.
@@ -107,32 +126,26 @@ pub fn octet(s: &[u8], k: u8) -> u8
 }
 
 // The f32 whose bits are word k, a NaN where they are a NaN's.
+#[tactic(auto, unfolding(crate::specs::Script::float_at))]
 pub fn float(s: &[u8], k: u8) -> f32
     ensures { result ≡ float_at s.now k }
 {
-    let bits = word(s, k);
-    if bits % 2147483648 > 2139095040 {
-        return 0.0 / 0.0;
-    }
-    f32::from_bits(bits)
+    std::num::f32_from_bits_with_nan(word(s, k))
 }
 
 // Words 0 and 1, the low one first.
 fn long(s: &[u8]) -> u64
     ensures { result ≡ long_at s.now }
 {
-    (word(s, 0) as u64) + (word(s, 1) as u64) * 4294967296
+    u64::from(word(s, 0)) + u64::from(word(s, 1)) * 4294967296
 }
 
 // The f64 whose bits are words 0 and 1, a NaN where they are a NaN's.
+#[tactic(auto, unfolding(crate::specs::Script::double_at))]
 pub fn double(s: &[u8]) -> f64
     ensures { result ≡ double_at s.now }
 {
-    let bits = long(s);
-    if bits % 9223372036854775808 > 9218868437227405312 {
-        return 0.0 / 0.0;
-    }
-    f64::from_bits(bits)
+    std::num::f64_from_bits_with_nan(long(s))
 }
 
 // The four f32 from word k on.
