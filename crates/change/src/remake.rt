@@ -75,7 +75,7 @@ fn copy_floats(floats: &mut [f32], from: u32, to: u32)
     ensures { floats.new ≡ put floats.old (to * float_width) (part floats.old (from * float_width) float_width) }
 {
     if from < to {
-        areas::copy_f32(
+        areas::copy(
             floats,
             areas::place(FLOAT_WIDTH, from),
             areas::place(FLOAT_WIDTH, to),
@@ -90,7 +90,7 @@ fn copy_words(words: &mut [u32], from: u32, to: u32)
     ensures { words.new ≡ put words.old (to * word_width) (part words.old (from * word_width) word_width) }
 {
     if from < to {
-        areas::copy_u32(
+        areas::copy(
             words,
             areas::place(WORD_WIDTH, from),
             areas::place(WORD_WIDTH, to),
@@ -123,7 +123,7 @@ fn append_unit(scales: &mut [f32], used: u32, then: u32)
 {
     if used < then {
         let entry = [1.0f32, 1.0, 0.0, 0.0];
-        areas::put_f32(scales, areas::place(SCALE_WIDTH, used), &entry);
+        areas::put(scales, areas::place(SCALE_WIDTH, used), &entry);
     }
 }
 

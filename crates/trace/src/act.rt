@@ -54,7 +54,7 @@ fn write_word(words: &mut [u32], on: bool, at: usize, value: u32)
 {
     if on {
         let one = [value];
-        areas::put_u32(words, at, &one);
+        areas::put(words, at, &one);
     }
 }
 
@@ -64,7 +64,7 @@ fn write_half(halves: &mut [i16], on: bool, at: usize, value: i16)
 {
     if on {
         let one = [value];
-        areas::put_i16(halves, at, &one);
+        areas::put(halves, at, &one);
     }
 }
 

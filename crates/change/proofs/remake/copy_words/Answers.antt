@@ -3,7 +3,7 @@ use Rattle.change.proofs.Storing.{own-place}
 use Rattle.change.proofs.remake.copy_words.Goals as goal
 
 pub returns-then-from-to : goal.returns-then-from-to
-returns-then-from-to c = rw (c.copy_u32.ensures, c.place-then-from-to.ensures, c.place.ensures)
+returns-then-from-to c = rw (c.copy.ensures, c.place-then-from-to.ensures, c.place.ensures)
 
 pub returns-else-from-to : goal.returns-else-from-to
 returns-else-from-to c = own-place _ _ _ _ c.requires c.if-from-to.false

@@ -5,7 +5,7 @@ use Rattle.trace.proofs.act.write_half.Goals as goal
 
 pub returns-then-on : goal.returns-then-on
 unfolding pick
-returns-then-on c = rw c.if-on.true (rw (to_z-of_z c.ranges.value) at c.put_i16.ensures)
+returns-then-on c = rw c.if-on.true (rw (to_z-of_z c.ranges.value) at c.put.ensures)
 
 pub returns-else-on : goal.returns-else-on
 unfolding pick

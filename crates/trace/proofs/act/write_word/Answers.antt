@@ -4,7 +4,7 @@ use Rattle.trace.proofs.act.write_word.Goals as goal
 
 pub returns-then-on : goal.returns-then-on
 unfolding pick
-returns-then-on c = rw c.if-on.true c.put_u32.ensures
+returns-then-on c = rw c.if-on.true c.put.ensures
 
 pub returns-else-on : goal.returns-else-on
 unfolding pick
