@@ -23,6 +23,14 @@ module _ {A : Type 0} where
   pointwise-matches p e (x ∷ xs) [] = refl
   pointwise-matches p e (x ∷ xs) (y ∷ ys) = rw (e.symm x y, pointwise-matches p e xs ys)
 
+  -- the lists compared as they stand
+  pub pointwise-is : (p : A → A → Bool) (xs ys : List A) → pointwise p xs ys ≡ matches p xs ys
+  unfolding matches
+  pointwise-is p [] [] = refl
+  pointwise-is p [] (y ∷ ys) = refl
+  pointwise-is p (x ∷ xs) [] = refl
+  pointwise-is p (x ∷ xs) (y ∷ ys) = rw (pointwise-is p xs ys)
+
   -- the rest of an area begins with an entry
   pub same-is : (p : A → A → Bool) → IsPartialEquivalence p → (l : List A) (at s : ℕ) (vs : List A) (r : Bool) → s ≡ min at (length l) → r ≡ starts_with p (take (length l - s) (drop s l)) vs
       → r ≡ matches p (part l at (length vs)) vs

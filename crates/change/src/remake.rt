@@ -31,7 +31,7 @@ fn append_unit(scales: &mut [f32], used: u32, then: u32)
 {
     if used < then {
         let entry = [1.0f32, 1.0, 0.0, 0.0];
-        areas::put_f32(scales, areas::place(SCALE_WIDTH, used), &entry);
+        areas::put(scales, areas::place(SCALE_WIDTH, used), &entry);
     }
 }
 

@@ -7,6 +7,6 @@ ghost use Rattle.fold.specs.Decision.{refold};
 pub fn folds(folded: bool, changed: bool, top: [f32; 16], model: [f32; 16]) -> bool
     ensures { result ≡ refold folded changed top model }
 {
-    let same = areas::same_f32(&top, 0, &model);
+    let same = top == model;
     !folded | changed | !same
 }

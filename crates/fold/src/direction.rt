@@ -3,6 +3,7 @@ ghost use Rattle.std.specs.Prelude.{◌≡◌};
 ghost use Rattle.fold.specs.Direction.{folded};
 
 // M times v on the upper 3 by 3, times 1 / length, or times 0 where the length is not above 0.
+#[tactic(auto, unfolding(crate::specs::Direction::folded))]
 pub fn fold_direction(m: [[f32; 4]; 4], v: [f32; 3]) -> [f32; 3]
     ensures { result ≡ folded m v }
 {

@@ -11,10 +11,7 @@ pub fn fog_place(fogs: &[i16], used: u32, multiplier: i16, offset: i16) -> u32
     ensures { (result ≡ find (entries fog_width used fogs.now) (multiplier ∷ offset ∷ [])) × (result ≤ used) }
 {
     let pair = [multiplier, offset];
-    for k in 0..used {
-        if areas::same_i16(fogs, areas::place(FOG_WIDTH, k), &pair) {
-            return k;
-        }
-    }
-    used
+    (0..used)
+        .find(|k| areas::same(fogs, areas::place(FOG_WIDTH, *k), &pair))
+        .unwrap_or(used)
 }

@@ -7,7 +7,7 @@ ghost use Rattle.fold.specs.Lights.{light_entry, ambient_entry, light_entries};
 
 use areas::widths::LIGHT_WIDTH;
 
-// Three of the numbers of eight triples. Asks for a place that has them.
+// Three of the numbers of eight triples. Asks for a place that has them, so that no `Option` is answered, as a slice's `first_chunk` does.
 fn three_of(f: [f32; 24], at: usize) -> [f32; 3]
     requires { at + 3 ≤ 24 }
     ensures { result ≡ three f at }
@@ -16,21 +16,23 @@ fn three_of(f: [f32; 24], at: usize) -> [f32; 3]
 }
 
 // The entry of light k. Asks for one of the eight lights.
+#[tactic(auto, unfolding(crate::specs::Lights::light_entry, crate::specs::Direction::folded))]
 fn light_entry(m: [[f32; 4]; 4], directions: [f32; 24], colours: [f32; 24], k: u32) -> [f32; 6]
     requires { k < 8 }
     ensures { result ≡ light_entry m directions colours k }
 {
     let at = 3 * (k as usize);
-    let d = crate::direction::fold_direction(m, three_of(directions, at));
-    let c = three_of(colours, at);
-    [d[0], d[1], d[2], c[0], c[1], c[2]]
+    let [x, y, z] = crate::direction::fold_direction(m, three_of(directions, at));
+    let [r, g, b] = three_of(colours, at);
+    [x, y, z, r, g, b]
 }
 
 // The ambient colour's entry: its direction is 0.
 fn ambient_entry(ambient: [f32; 3]) -> [f32; 6]
     ensures { result ≡ ambient_entry ambient }
 {
-    [0.0, 0.0, 0.0, ambient[0], ambient[1], ambient[2]]
+    let [r, g, b] = ambient;
+    [0.0, 0.0, 0.0, r, g, b]
 }
 
 // Writes the entries of `number` lights and of the ambient colour from entry `used` on. Asks for at most seven lights:
@@ -50,8 +52,8 @@ pub fn fold_lights(
     let first = areas::place(LIGHT_WIDTH, used);
     for k in 0..number {
         let entry = light_entry(m, directions, colours, k);
-        areas::put_f32(lights, first + areas::place(LIGHT_WIDTH, k), &entry);
+        areas::put(lights, first + areas::place(LIGHT_WIDTH, k), &entry);
     }
     let last = ambient_entry(ambient);
-    areas::put_f32(lights, first + areas::place(LIGHT_WIDTH, number), &last);
+    areas::put(lights, first + areas::place(LIGHT_WIDTH, number), &last);
 }

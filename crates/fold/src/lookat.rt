@@ -2,6 +2,7 @@
 ghost use Rattle.std.specs.Prelude.{◌≡◌};
 ghost use Rattle.fold.specs.Lookat.{lookat_entry};
 
+#[tactic(auto, unfolding(crate::specs::Lookat::lookat_entry, crate::specs::Direction::folded))]
 pub fn lookat_entry(m: [[f32; 4]; 4], axes: [f32; 6]) -> [f32; 6]
     ensures { result ≡ lookat_entry m axes }
 {

@@ -23,9 +23,7 @@ pub fn scales_of(sc: u16, tc: u16) -> [f32; 4]
 pub fn scale_is(scales: &[f32], used: u32, entry: [f32; 4]) -> bool
     ensures { result ≡ same_scale (entries scale_width used scales.now) entry }
 {
-    if used == 0 {
-        return false;
-    }
-    let pair = [entry[0], entry[1]];
-    areas::same_f32(scales, areas::place(SCALE_WIDTH, used - 1), &pair)
+    let pair = &entry[..2];
+    let last = used.checked_sub(1);
+    last.is_some_and(|k| areas::same(scales, areas::place(SCALE_WIDTH, k), pair))
 }

@@ -1,5 +1,6 @@
 // Lights and lookat axes folded into their tables where they are due: the count then. Both ask for a count that does not
-// wrap, and for at most seven lights, which the state's judge has seen to.
+// wrap, and for at most seven lights, which the state's judge has seen to. An entry is worked out only where it is due, and
+// `put_if` takes one that is there. What the lights need stands in columns of the state: a struct of it would be a copy.
 ghost use Rattle.std.specs.Prelude.{◌≡◌, [], ◌∷◌, ◌≤◌};
 ghost use Rattle.areas.specs.Widths.{most, light_width, lookat_width};
 ghost use Rattle.decide.specs.Append.{only_if};
@@ -37,6 +38,6 @@ pub fn lookat_if(due: bool, lookats: &mut [f32], used: u32, m: [[f32; 4]; 4], ax
         return used;
     }
     let entry = crate::lookat::lookat_entry(m, axes);
-    areas::put_f32(lookats, areas::place(LOOKAT_WIDTH, used), &entry);
+    areas::put(lookats, areas::place(LOOKAT_WIDTH, used), &entry);
     used + 1
 }

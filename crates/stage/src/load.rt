@@ -303,8 +303,8 @@ impl State {
         let colours = self.lights.colours;
         let ambient = self.lights.ambient;
         let axes = self.lookat.axes;
-        let n1 = decide::append::put_matrix_if(d.newmatrix, matrices, c.matrices, combined);
-        let n3 = decide::append::put_scales_if(d.newscale, scales, c.scales, entry);
+        let n1 = decide::append::put_if(d.newmatrix, matrices, c.matrices, &combined);
+        let n3 = decide::append::put_if(d.newscale, scales, c.scales, &entry);
         let n4 = fold::settle::lights_if(
             d.newlights,
             lights,
@@ -316,7 +316,8 @@ impl State {
             self.lights.number,
         );
         let n5 = fold::settle::lookat_if(d.newlookat, lookats, c.lookats, m, axes);
-        let n6 = decide::append::put_fog_if(d.newfog, fogs, c.fogs, self.fogmul, self.fogoff);
+        let pair = [self.fogmul, self.fogoff];
+        let n6 = decide::append::put_if(d.newfog, fogs, c.fogs, &pair);
         c.matrices = n1;
         c.scales = n3;
         c.lights = n4;

@@ -84,7 +84,7 @@ fn opened_state() -> State
 {
     let one = matrix::math::to_flat(matrix::math::identity());
     let mut stack = [0.0f32; 512];
-    areas::put_f32(&mut stack, 0, &one);
+    areas::put(&mut stack, 0, &one);
     let mut s = blank_state(true, 1);
     s.depth = 1;
     s.stack = stack;

@@ -7,4 +7,4 @@ use Rattle.change.proofs.remake.append_unit.Goals as goal
 
 pub returns-then-used-then : goal.returns-then-used-then
 unfolding of_bits pick
-returns-then-used-then c = rw (lt-ltb _ _ c.if-used-then.true, c.put_f32.ensures, c.place.ensures, write-one)
+returns-then-used-then c = rw (lt-ltb _ _ c.if-used-then.true, c.put.ensures, c.place.ensures, write-one)

@@ -9,9 +9,9 @@ pub loop-k-init : goal.loop-k-init
 loop-k-init c = (lit-none, search rules)
 
 pub loop-k-preserved : goal.loop-k-preserved
-loop-k-preserved c = (lit-more _ _ _ _ c.loop-k.invariant.0 c.place-first.ensures c.place.ensures c.put_f32.ensures c.light_entry-entry.ensures, omega arith)
+loop-k-preserved c = (lit-more _ _ _ _ c.loop-k.invariant.0 c.place-first.ensures c.place.ensures c.put.ensures c.light_entry-entry.ensures, omega arith)
 
 pub returns : goal.returns
 returns c =
     let e : c.loop-k.k ≡ c.args.number = omega arith in
-    lit-all _ _ _ _ (rw e at c.loop-k.invariant.0) c.place-first.ensures c.place-2.ensures c.put_f32-2.ensures _ c.ambient_entry-last.ensures
+    lit-all _ _ _ _ (rw e at c.loop-k.invariant.0) c.place-first.ensures c.place-2.ensures c.put-2.ensures _ c.ambient_entry-last.ensures

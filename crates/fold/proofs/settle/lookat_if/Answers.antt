@@ -7,4 +7,4 @@ pub returns-then-not-due : goal.returns-then-not-due
 returns-then-not-due c = puts_none _ _ _ _ _ (ap not c.if-not-due.true)
 
 pub returns : goal.returns
-returns c = put_one _ _ _ _ _ _ _ (ap not c.if-not-due.false) c.place.ensures (c.put_f32.ensures ∙ rw c.lookat_entry-entry.ensures)
+returns c = put_one _ _ _ _ _ _ _ (ap not c.if-not-due.false) c.place.ensures (c.put.ensures ∙ rw c.lookat_entry-entry.ensures)

@@ -1,18 +1,20 @@
 use Prim.Native.Nat.{◌+◌}
 use mir.Syntax.{w16}
 use mir.Facts.{to_z-of_z}
+use mir.Val.{SFits}
+use borrow.Author.Rules.{rules}
 use Rattle.stage.specs.Load.{load_edits}
 use Rattle.stage.proofs.Settling.{put_count, put-area}
 use Rattle.stage.proofs.State.tables_written.Goals as goal
 
-pub put_fog_if-n6-requires : goal.put_fog_if-n6-requires
-put_fog_if-n6-requires c = c.requires.0.fogs
+pub put_if-n6-requires : goal.put_if-n6-requires
+put_if-n6-requires c = (search rules, (c.requires.0.fogs, search rules))
 
 pub shape_of-matrices : goal.shape_of-matrices
-shape_of-matrices c = c.put_matrix_if-n1.auto.matrices
+shape_of-matrices c = c.put_if-n1.auto.area
 
 pub shape_of-scales : goal.shape_of-scales
-shape_of-scales c = c.put_scales_if-n3.auto.scales
+shape_of-scales c = c.put_if-n3.auto.area
 
 pub returns : goal.returns
 unfolding load_edits
@@ -20,11 +22,13 @@ returns c =
     let d = c.args.d in
     let s = c.args.self in
     let n = c.args.count in
-    let a = c.put_matrix_if-n1.ensures in
-    let b = c.put_scales_if-n3.ensures in
+    let a = c.put_if-n1.ensures in
+    let b = c.put_if-n3.ensures in
     let l = rw c.from_flat-m.ensures at c.lights_if-n4.ensures in
     let o = rw c.from_flat-m.ensures at c.lookat_if-n5.ensures in
-    let f = rw (to_z-of_z {w = w16} {z = s.fogmul} (record { sfits = c.struct_told-1.given.1.1.1.1.0.1 }), to_z-of_z {w = w16} {z = s.fogoff} (record { sfits = c.struct_told-2-1.given.1.1.1.1.1.0.1 })) at c.put_fog_if-n6.ensures in
+    let m : SFits w16 s.fogmul = search rules in
+    let k : SFits w16 s.fogoff = search rules in
+    let f = rw (to_z-of_z m, to_z-of_z k) at c.put_if-n6.ensures in
     record {
       counts = λ i. record {
         matrices = put_count d.newmatrix _ _ _ _ _ _ a i;

@@ -6,4 +6,4 @@ use Rattle.stage.proofs.matrices.opened_state.Goals as goal
 
 pub returns : goal.returns
 unfolding opened blank put laid of_bits
-returns c = rw (c.blank_state-s.ensures, c.put_f32.ensures, c.to_flat-one.ensures, c.identity.ensures)
+returns c = rw (c.blank_state-s.ensures, c.put.ensures, c.to_flat-one.ensures, c.identity.ensures)
