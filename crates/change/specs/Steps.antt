@@ -1,9 +1,9 @@
 -- This file serves private steps of the code: who reads the promises need not read it. Definitions only.
 -- The judge of a change: what is refused, in the order of REFERENCE 3.2, and the numbers that an accepted change comes to.
-use Rattle.std.specs.Prelude.{◌≡◌, List, [], ◌∷◌, ℕ, ◌+◌, ◌-◌, ◌*◌, min, length, Float, leb, ltb, Option, Some, None, Result, Ok, Err}
+use Rattle.std.specs.Prelude.{◌≡◌, ◌≤◌, List, [], ◌∷◌, ℕ, ◌+◌, ◌-◌, ◌*◌, min, length, Float, leb, ltb, Option, Some, None, Result, Ok, Err}
 use Rattle.numbers.specs.Choice.{pick, unless}
 use Rattle.areas.specs.Area.{room, part, write}
-use Rattle.areas.specs.Widths.{scale_width, float_width, word_width}
+use Rattle.areas.specs.Widths.{most, scale_width, float_width, word_width}
 use Rattle.change.specs.Decoded.{appends, floats_after, words_after, unit_entry}
 use Rattle.change.specs.declared.Change.{Change}
 use Rattle.change.specs.declared.judge.Slot.{Slot}
@@ -19,6 +19,10 @@ Verdict = Result (Change × Moved) Refusal
 -- how many rows two areas of so many numbers have room for: the lesser room counts
 abbrev pub row_room : ℕ → ℕ → ℕ
 row_room floats words = min (room float_width floats) (room word_width words)
+
+-- the counts of the two tables are in their range, as a sound state's are
+abbrev pub InRange : Tables → Type 0
+InRange t = (t.scales ≤ most) × (t.rows ≤ most)
 
 -- a drawn slot's row is the copy at the end of the rows; a texture change has the unit entry, at the end of the scales where it is new
 unfoldable pub comes_to : Change → Slot → Tables → Moved

@@ -1,8 +1,7 @@
 // The judge of a change, and the numbers that an accepted one comes to. Nothing is written before it is through.
-ghost use Rattle.std.specs.Prelude.{◌≡◌, ◌≤◌};
-ghost use Rattle.areas.specs.Widths.{most};
+ghost use Rattle.std.specs.Prelude.{◌≡◌};
 ghost use Rattle.change.specs.Decoded.{appends};
-ghost use Rattle.change.specs.Steps.{row_room, comes_to, roomy, change_judged};
+ghost use Rattle.change.specs.Steps.{InRange, row_room, comes_to, roomy, change_judged};
 
 use crate::Change;
 use areas::widths::{FLOAT_WIDTH, WORD_WIDTH};
@@ -66,7 +65,7 @@ fn appends_unit(c: Change, unit: u32) -> bool
 // range, which the state's own numbers are by then.
 #[tactic(auto, unfolding(crate::specs::Steps::comes_to, numbers::specs::Choice::pick))]
 fn moved_by(c: Change, s: Slot, t: Tables) -> Moved
-    requires { (t.scales ≤ most) × (t.rows ≤ most) }
+    requires { InRange t }
     ensures { result ≡ comes_to c s t }
 {
     let fresh = appends_unit(c, t.unit);
@@ -81,7 +80,7 @@ fn moved_by(c: Change, s: Slot, t: Tables) -> Moved
 // Refusals 8 and 9, tables 3 and 7. Asks for counts in their range.
 #[tactic(auto, unfolding(crate::specs::Steps::roomy, numbers::specs::Choice::unless))]
 fn judge_room(c: Change, s: Slot, t: Tables) -> Result<(Change, Moved), Refusal>
-    requires { (t.scales ≤ most) × (t.rows ≤ most) }
+    requires { InRange t }
     ensures { result ≡ roomy c s t }
 {
     if t.scaleroom < (t.scales as usize) {
@@ -104,7 +103,7 @@ fn judge_room(c: Change, s: Slot, t: Tables) -> Result<(Change, Moved), Refusal>
 // Asks for counts in their range.
 #[tactic(auto, unfolding(crate::specs::Steps::change_judged, numbers::specs::Choice::unless))]
 pub(crate) fn judge(asked: Option<Change>, s: Slot, t: Tables) -> Result<(Change, Moved), Refusal>
-    requires { (t.scales ≤ most) × (t.rows ≤ most) }
+    requires { InRange t }
     ensures { result ≡ change_judged asked s t }
 {
     let c = asked.ok_or(Refusal::Unknown)?;

@@ -2,9 +2,9 @@
 ghost use Rattle.std.specs.Prelude.{◌≡◌, [], ◌∷◌, ◌+◌, ◌-◌, ◌*◌, ◌≤◌, ltb, length};
 ghost use Rattle.numbers.specs.Choice.{pick};
 ghost use Rattle.areas.specs.Area.{part, write};
-ghost use Rattle.areas.specs.Widths.{most, scale_width};
+ghost use Rattle.areas.specs.Widths.{scale_width};
 ghost use Rattle.change.specs.Decoded.{unit_entry};
-ghost use Rattle.change.specs.Steps.{RoomsOf, change_judged, remade};
+ghost use Rattle.change.specs.Steps.{InRange, RoomsOf, change_judged, remade};
 
 use crate::Change;
 use crate::judge::{Moved, Refusal, Slot, Tables};
@@ -45,7 +45,7 @@ pub fn remake(
     floats: &mut [f32],
     words: &mut [u32],
 ) -> Result<(Change, Moved), Refusal>
-    requires { (t.scales ≤ most) × (t.rows ≤ most) × RoomsOf t scales.old floats.old words.old }
+    requires { InRange t × RoomsOf t scales.old floats.old words.old }
     ensures { (result ≡ change_judged asked s t) × ((scales.new, floats.new, words.new) ≡ remade result s t (scales.old, floats.old, words.old)) }
 {
     let (c, m) = crate::judge::judge(asked, s, t)?;

@@ -98,7 +98,7 @@ impl State {
         self.z = z;
         Answered {
             state: self,
-            answer: answer,
+            answer,
         }
     }
 
@@ -134,7 +134,7 @@ impl State {
         let answer = self.inked(colour, floats, words, indices);
         Answered {
             state: self,
-            answer: answer,
+            answer,
         }
     }
 }

@@ -10,7 +10,7 @@ use Rattle.stage.proofs.State.modify_vertex.Goals.{then-sound+in-Err, then-sound
 pub remake-requires : goal.remake-requires
 remake-requires c =
     let r = ranges _ (sym c.sound.ensures ∙ c.if-sound.true) in
-    rw c.tables37-t.ensures (r.scales, r.rows, (refl, refl))
+    rw c.tables37-t.ensures ((r.scales, r.rows), (refl, refl))
 
 pub returns : goal.returns
 returns c =
