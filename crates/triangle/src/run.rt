@@ -1,6 +1,6 @@
 // A run of triangles: six settings, where its indices start, and how many there are. Eight numbers at a place of an area.
-ghost use Rattle.std.specs.Prelude.{◌≡◌, ◌+◌, ◌≤◌, eqb, length};
-ghost use Rattle.areas.specs.Area.{part, put, matches};
+ghost use Rattle.std.specs.Prelude.{◌≡◌, ◌+◌, ◌≤◌, length};
+ghost use Rattle.areas.specs.Area.{part, put};
 ghost use Rattle.areas.specs.Widths.{run_width, settings_wide};
 ghost use Rattle.triangle.specs.Run.{settings, run_of};
 ghost use Rattle.triangle.specs.Steps.{six, seen, last_of};
@@ -8,7 +8,7 @@ ghost use Rattle.triangle.specs.Steps.{six, seen, last_of};
 use areas::widths::{COUNT_FIELD, RUN_WIDTH, START_FIELD};
 
 // Cull and unclipped are 0 or 1.
-#[derive(Clone, Copy)]
+#[derive(Clone, Copy, PartialEq, Eq)]
 pub struct Settings {
     pub material: u32,
     pub mode: u32,
@@ -18,10 +18,9 @@ pub struct Settings {
     pub unclipped: u32,
 }
 
-// What a draw looks at of the last run: whether there is one, its start and count, and whether it has the draw's settings.
+// What a draw looks at of the last run: its start and count, and whether it has the draw's settings.
 #[derive(Clone, Copy)]
 pub struct Last {
-    pub used: bool,
     pub start: u32,
     pub count: u32,
     pub same: bool,
@@ -31,28 +30,30 @@ pub struct Last {
 pub fn settings_of(asked: [u32; 4], cull: bool, microcode: u8) -> Settings
     ensures { six result ≡ settings asked cull microcode }
 {
-    let four = asked;
+    let [material, mode, fog, depth] = asked;
     Settings {
-        material: four[0],
-        mode: four[1],
-        fog: four[2],
-        depth: four[3],
-        cull: crate::slot::word_of(cull),
-        unclipped: crate::slot::word_of(microcode == 1),
+        material,
+        mode,
+        fog,
+        depth,
+        cull: u32::from(cull),
+        unclipped: u32::from(microcode == 1),
     }
 }
 
-// Whether the run at a place has these settings. Asks for the whole run there, as below.
-fn run_is(runs: &[u32], at: usize, q: Settings) -> bool
+// The settings of the run at a place. Asks for the whole run there, as below.
+fn settings_at(runs: &[u32], at: usize) -> Settings
     requires { at + run_width ≤ length runs.now }
-    ensures { result ≡ matches eqb (part runs.now at settings_wide) (six q) }
+    ensures { six result ≡ part runs.now at settings_wide }
 {
-    (runs[at] == q.material)
-        & (runs[at + 1] == q.mode)
-        & (runs[at + 2] == q.fog)
-        & (runs[at + 3] == q.depth)
-        & (runs[at + 4] == q.cull)
-        & (runs[at + 5] == q.unclipped)
+    Settings {
+        material: runs[at],
+        mode: runs[at + 1],
+        fog: runs[at + 2],
+        depth: runs[at + 3],
+        cull: runs[at + 4],
+        unclipped: runs[at + 5],
+    }
 }
 
 // The run at a place, as a draw with these settings looks at it. Asks for the whole run there, which its caller has seen.
@@ -61,29 +62,24 @@ pub fn run_at(runs: &[u32], at: usize, q: Settings) -> Last
     ensures { result ≡ seen runs.now at (six q) }
 {
     Last {
-        used: true,
         start: runs[at + START_FIELD],
         count: runs[at + COUNT_FIELD],
-        same: run_is(runs, at, q),
+        same: settings_at(runs, at) == q,
     }
 }
 
 // The last of `used` runs. There is none where none is in use, or where the area does not hold those in use.
-pub fn last_run(runs: &[u32], used: u32, q: Settings) -> Last
+pub fn last_run(runs: &[u32], used: u32, q: Settings) -> Option<Last>
     ensures { result ≡ last_of used runs.now (six q) }
 {
-    if !((1 <= used) & (used as usize <= runs.len() / 8)) {
-        return Last {
-            used: false,
-            start: 0,
-            count: 0,
-            same: false,
-        };
+    if (used == 0) | (used as usize > runs.len() / RUN_WIDTH as usize) {
+        return None;
     }
-    run_at(runs, areas::place(RUN_WIDTH, used - 1), q)
+    Some(run_at(runs, areas::place(RUN_WIDTH, used - 1), q))
 }
 
-// A run written at a place. Asks for room, which a draw has judged before it writes: a test of each index would cost.
+// A run written at a place. Asks for room, which a draw has judged before it writes: a test of each index would cost. It
+// is stored number by number: `copy_from_slice` of six calls a copy, and a draw then takes half as long again.
 pub fn put_run(runs: &mut [u32], at: usize, q: Settings, start: u32, count: u32)
     requires { at + run_width ≤ length runs.old }
     ensures { runs.new ≡ put runs.old at (run_of (six q) start count) }

@@ -1,17 +1,16 @@
-// Slots and the corners of a triangle, its sides, and a test's answer as a number.
+// Slots and the corners of a triangle, and its sides.
 ghost use Rattle.std.specs.Prelude.{◌≡◌, ◌+◌, ◌≤◌, length};
 ghost use Rattle.areas.specs.Area.{put};
-ghost use Rattle.triangle.specs.Slot.{bit, corners};
+ghost use Rattle.triangle.specs.Slot.{corners};
 ghost use Rattle.triangle.specs.Steps.{corner_at, sides_of};
 
 use decide::family::Family;
 
-// A corner of a triangle: its slot, whether that was ever loaded, and the slot's row.
+// A corner of a triangle: its slot, and that slot's row if it was ever loaded.
 #[derive(Clone, Copy)]
 pub struct Corner {
     pub slot: u32,
-    pub known: bool,
-    pub row: u32,
+    pub row: Option<u32>,
 }
 
 // What a geometry mode word says of the sides of a triangle: both are culled, one at least is, the front only is.
@@ -27,9 +26,8 @@ pub fn corner_at(slots: u32, slot: u32, mark: bool, row: u32) -> Corner
     ensures { result ≡ corner_at slots slot mark row }
 {
     Corner {
-        slot: slot,
-        known: (slot < slots) & mark,
-        row: row,
+        slot,
+        row: ((slot < slots) & mark).then_some(row),
     }
 }
 
@@ -44,13 +42,6 @@ pub fn sides_of(f: Family, geometry: u32) -> Sides
         cull: front | back,
         swap: front & !back,
     }
-}
-
-// 1 for yes, 0 for no.
-pub fn word_of(yes: bool) -> u32
-    ensures { result ≡ bit yes }
-{
-    if yes { 1 } else { 0 }
 }
 
 // The rows x, y, z from place `at` on, the first and the last exchanged where `swap` says so. Asks for room, which a

@@ -2,23 +2,27 @@
 // order of docs/REFERENCE.md 3.
 ghost use Rattle.std.specs.Prelude.{◌≡◌, ◌+◌, leb};
 ghost use Rattle.areas.specs.Area.{room};
-ghost use Rattle.triangle.specs.Steps.{draw_tables, closes, draw_judged, draw_slots, draw_areas, draw_last};
+ghost use Rattle.triangle.specs.Steps.{closes, loaded, draw_judged, draw_slots, draw_areas, draw_last};
 
 use crate::run::Last;
 use crate::slot::Corner;
 use areas::widths::{INDEX_WIDTH, RUN_WIDTH};
 
-// A refusal, or nothing to draw, or a triangle to record.
+// Why a draw is refused: the state is not sound, or refusals 6, 8 and 9 with the slot, or the table.
 #[derive(Clone, Copy)]
-pub enum Verdict {
+pub enum Refusal {
     Unsound,
-    Nothing,
-    // A slot, or a table, of refusals 6, 8 and 9.
     Never(u32),
     Short(u32),
     Full(u32),
-    // How many runs are appended, 0 or 1, and the start and the count of the last run then.
-    Record(u32, u32, u32),
+}
+
+// A triangle to record: how many runs are appended, 0 or 1, and the start and the count of the last run then.
+#[derive(Clone, Copy)]
+pub struct Record {
+    pub more: u32,
+    pub start: u32,
+    pub count: u32,
 }
 
 // Of tables 7, 8 and 9 the entries in use, and of 8 and 9 how many numbers the areas have.
@@ -31,24 +35,14 @@ pub struct Tables {
     pub runlen: usize,
 }
 
-// The tables of a draw.
-pub fn tables_of(rows: u32, indices: u32, runs: u32, indexlen: usize, runlen: usize) -> Tables
-    ensures { result ≡ draw_tables rows indices runs indexlen runlen }
-{
-    Tables {
-        rows: rows,
-        indices: indices,
-        runs: runs,
-        indexlen: indexlen,
-        runlen: runlen,
-    }
-}
-
 // Whether the last run, if there is one, ends where the indices in use do.
-fn ends(last: Last, indices: u32) -> bool
+fn ends(last: Option<Last>, indices: u32) -> bool
     ensures { result ≡ closes last indices }
 {
-    !last.used | ((last.start as u64) + (last.count as u64) == (indices as u64))
+    match last {
+        Some(run) => u64::from(run.start) + u64::from(run.count) == u64::from(indices),
+        None => true,
+    }
 }
 
 // Whether an area of `len` numbers has room for `used` entries of so many numbers, and for `more`.
@@ -59,60 +53,74 @@ fn roomy(used: u32, more: u32, width: u32, len: usize) -> bool
 }
 
 // The last run, and room for the triangle.
-fn judge_last(t: Tables, last: Last) -> Verdict
+fn judge_last(t: Tables, last: Option<Last>) -> Result<Record, Refusal>
     ensures { result ≡ draw_last t last }
 {
-    let grows = last.used & last.same;
-    let eight = roomy(t.indices, 3, INDEX_WIDTH, t.indexlen);
-    let nine = grows | roomy(t.runs, 1, RUN_WIDTH, t.runlen);
     if !ends(last, t.indices) {
-        return Verdict::Unsound;
+        return Err(Refusal::Unsound);
     }
-    if !eight {
-        return Verdict::Full(8);
+    if !roomy(t.indices, 3, INDEX_WIDTH, t.indexlen) {
+        return Err(Refusal::Full(8));
     }
-    if !nine {
-        return Verdict::Full(9);
+    if let Some(run) = last {
+        if run.same {
+            return Ok(Record {
+                more: 0,
+                start: run.start,
+                count: run.count + 3,
+            });
+        }
     }
-    if grows {
-        return Verdict::Record(0, last.start, last.count + 3);
+    if !roomy(t.runs, 1, RUN_WIDTH, t.runlen) {
+        return Err(Refusal::Full(9));
     }
-    Verdict::Record(1, t.indices, 3)
+    Ok(Record {
+        more: 1,
+        start: t.indices,
+        count: 3,
+    })
 }
 
 // The areas hold what is in use.
-fn judge_areas(t: Tables, last: Last) -> Verdict
+fn judge_areas(t: Tables, last: Option<Last>) -> Result<Record, Refusal>
     ensures { result ≡ draw_areas t last }
 {
     if !roomy(t.indices, 0, INDEX_WIDTH, t.indexlen) {
-        return Verdict::Short(8);
+        return Err(Refusal::Short(8));
     }
     if !roomy(t.runs, 0, RUN_WIDTH, t.runlen) {
-        return Verdict::Short(9);
+        return Err(Refusal::Short(9));
     }
     judge_last(t, last)
 }
 
+// The row of a corner.
+fn row_of(corner: Corner) -> Result<u32, Refusal>
+    ensures { result ≡ loaded corner }
+{
+    corner.row.ok_or(Refusal::Never(corner.slot))
+}
+
 // The three slots were loaded, and have a row in use.
-fn judge_slots(a: Corner, b: Corner, c: Corner, t: Tables, last: Last) -> Verdict
+fn judge_slots(
+    a: Corner,
+    b: Corner,
+    c: Corner,
+    t: Tables,
+    last: Option<Last>,
+) -> Result<Record, Refusal>
     ensures { result ≡ draw_slots a b c t last }
 {
-    if !a.known {
-        return Verdict::Never(a.slot);
-    }
-    if !b.known {
-        return Verdict::Never(b.slot);
-    }
-    if !c.known {
-        return Verdict::Never(c.slot);
-    }
-    if !((a.row < t.rows) & (b.row < t.rows) & (c.row < t.rows)) {
-        return Verdict::Unsound;
+    let x = row_of(a)?;
+    let y = row_of(b)?;
+    let z = row_of(c)?;
+    if !((x < t.rows) & (y < t.rows) & (z < t.rows)) {
+        return Err(Refusal::Unsound);
     }
     judge_areas(t, last)
 }
 
-// The state's own numbers are `sound`, and not `both` sides are culled.
+// The state's own numbers are `sound`. Where `both` sides are culled there is nothing to record.
 pub fn judge(
     sound: bool,
     both: bool,
@@ -120,15 +128,15 @@ pub fn judge(
     b: Corner,
     c: Corner,
     t: Tables,
-    last: Last,
-) -> Verdict
+    last: Option<Last>,
+) -> Result<Option<Record>, Refusal>
     ensures { result ≡ draw_judged sound both a b c t last }
 {
     if !sound {
-        return Verdict::Unsound;
+        return Err(Refusal::Unsound);
     }
     if both {
-        return Verdict::Nothing;
+        return Ok(None);
     }
-    judge_slots(a, b, c, t, last)
+    Ok(Some(judge_slots(a, b, c, t, last)?))
 }
