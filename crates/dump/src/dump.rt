@@ -20,7 +20,7 @@ struct Areas<'a> {
 
 impl Areas<'_> {
     // The entries in use of each table.
-    fn tables(self, out: &impl Print, c: Counts) -> io::Result<()> {
+    fn tables(&self, out: &impl Print, c: Counts) -> io::Result<()> {
         tables::entries(out, "t1", self.matrices, 16, c.matrices)?;
         tables::entries(out, "t2", self.viewports, 6, c.viewports)?;
         tables::entries(out, "t3", self.scales, 4, c.scales)?;
@@ -33,7 +33,7 @@ impl Areas<'_> {
     }
 
     // The hash of each area.
-    fn hashes(self, out: &impl Print) -> io::Result<()> {
+    fn hashes(&self, out: &impl Print) -> io::Result<()> {
         let hashes = [
             hash::of(self.matrices),
             hash::of(self.viewports),
@@ -54,22 +54,17 @@ impl Areas<'_> {
 }
 
 fn settings(out: &impl Print, s: &State) -> io::Result<()> {
-    let defined = s.defined as u8;
-    let texture = s.texture;
-    let on = texture.on as u8;
+    let t = s.texture;
     print!(out;
-        "state {} {} {} {defined}",
-        s.depth, s.geometry, s.microcode
+        "state {} {} {} {}",
+        s.depth, s.geometry, s.microcode, s.defined as u8
     )?;
-    print!(out;
-        " {} {} {on} {} {}",
-        texture.tile, texture.level, texture.sc, texture.tc
-    )?;
+    print!(out; " {} {} {} {} {}", t.tile, t.level, t.on as u8, t.sc, t.tc)?;
     println!(out; " {} {} {}", s.fogmul, s.fogoff, s.lights.number)
 }
 
-fn line(out: &impl Print, name: &[u8], xs: &[f32]) -> io::Result<()> {
-    show::text(out, name)?;
+fn line(out: &impl Print, name: &str, xs: &[f32]) -> io::Result<()> {
+    print!(out; "{name}")?;
     show::row(out, xs)?;
     println!(out)
 }
@@ -90,14 +85,28 @@ fn lights(out: &impl Print, directions: &[f32], colours: &[f32]) -> io::Result<(
 fn state(out: &impl Print, s: &State) -> io::Result<()> {
     settings(out, s)?;
     tables::entries(out, "stack", &s.stack, 16, s.depth)?;
-    line(out, b"proj", &s.projection)?;
-    line(out, b"vp", &s.viewport)?;
+    line(out, "proj", &s.projection)?;
+    line(out, "vp", &s.viewport)?;
     lights(out, &s.lights.directions, &s.lights.colours)?;
-    line(out, b"ambient", &s.lights.ambient)?;
+    line(out, "ambient", &s.lights.ambient)?;
     tables::entries(out, "look", &s.lookat.axes, 3, 2)
 }
 
-// Writes the dump. Before the opening there is no state and no entry.
+// Before the opening there is no state to show, no entry and no slot.
+fn whole(out: &impl Print, s: &State, areas: Areas) -> io::Result<()> {
+    println!(out; "end\nopen {}", s.opened as u8)?;
+    if s.opened {
+        print!(out; "counts")?;
+        show::counts(out, s.counts)?;
+        println!(out)?;
+        state(out, s)?;
+        areas.tables(out, s.counts)?;
+        slots::lines(out, s)?;
+    }
+    areas.hashes(out)
+}
+
+// Writes the dump.
 pub fn write(
     out: &impl Print,
     s: State,
@@ -124,16 +133,5 @@ pub fn write(
         indices,
         runs,
     };
-    show::text(out, b"end\n")?;
-    if s.opened {
-        show::text(out, b"open 1\ncounts")?;
-        show::counts(out, s.counts)?;
-        show::text(out, b"\n")?;
-        state(out, &s)?;
-        areas.tables(out, s.counts)?;
-        slots::lines(out, &s)?;
-    } else {
-        show::text(out, b"open 0\n")?;
-    }
-    areas.hashes(out)
+    whole(out, &s, areas)
 }

@@ -113,6 +113,7 @@ impl Word for f32 {
     }
 }
 
+// Numbers, each after a space.
 pub(crate) fn row<T: Shown>(out: &impl Print, xs: &[T]) -> io::Result<()> {
     for x in xs {
         x.show(out)?;
@@ -165,7 +166,8 @@ fn with_values<R, F: FnOnce(&[u32]) -> R>(a: Answer, f: F) -> R
     }
 }
 
-// The name of an op: a command, of which there is no number 0 and no 0x13, or an act of the driver.
+// The name of an op, after a space: a command, of which there is no number 0 and no 0x13, or an act of the driver. A number past
+// them has no name.
 fn name_of(op: u8) -> &'static str {
     match op {
         ops::OPEN => " open",

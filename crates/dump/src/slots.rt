@@ -1,5 +1,4 @@
 // The slots that differ from the opening's, a line each.
-use crate::show;
 use crate::show::Shown;
 use stage::State;
 use std::io;

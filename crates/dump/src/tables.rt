@@ -1,6 +1,5 @@
 // The entries of a table, a line each, as far as they lie inside their area.
-use crate::show;
-use crate::show::Shown;
+use crate::show::{self, Shown};
 use std::io;
 
 // `count` entries of `width` numbers.
@@ -11,6 +10,7 @@ pub(crate) fn entries<T: Shown>(
     width: usize,
     count: u32,
 ) -> io::Result<()> {
+    // `chunks_exact` asks for a width above 0.
     if width == 0 {
         return Ok(());
     }

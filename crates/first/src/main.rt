@@ -14,49 +14,32 @@ const CULL_BACK: u32 = 0x400;
 
 const COLOUR: u32 = 0x10;
 
-fn line(out: &impl Print, what: &[u8]) -> io::Result<()> {
-    out.write_all(what)?;
-    out.write_all(b"\n")
-}
-
-fn one(out: &impl Print, what: &[u8], n: u32) -> io::Result<()> {
-    out.write_all(what)?;
-    println!(out; "{n}")
-}
-
-fn two(out: &impl Print, what: &[u8], n: u32, m: u32) -> io::Result<()> {
-    out.write_all(what)?;
-    println!(out; "{n} {m}")
-}
-
-fn four(out: &impl Print, what: &[u8], n: u32, m: u32, k: u32, j: u32) -> io::Result<()> {
-    out.write_all(what)?;
-    println!(out; "{n} {m} {k} {j}")
-}
-
 // What a command answered: done, a number that it tells, or a refusal by its number and its values.
-fn said(out: &impl Print, command: &[u8], a: Answer) -> io::Result<()> {
-    out.write_all(command)?;
+fn said(out: &impl Print, command: &str, a: Answer) -> io::Result<()> {
     match a {
-        Answer::Done => line(out, b": done"),
-        Answer::Told(n) => one(out, b": told ", n),
-        Answer::AllOutside(plane) => one(out, b": culled, all outside plane ", plane),
-        Answer::FirstInside(l, r, b, t) => four(out, b": not culled, first inside ", l, r, b, t),
-        Answer::BadLoad(count, first) => two(out, b": refusal 1, ", count, first),
-        Answer::BadCull(first, last) => two(out, b": refusal 2, ", first, last),
-        Answer::NotLoaded(slot) => one(out, b": refusal 3, ", slot),
-        Answer::NoCode(slot) => one(out, b": refusal 4, ", slot),
-        Answer::BadModify(slot, attribute) => two(out, b": refusal 5, ", slot, attribute),
-        Answer::NeverLoaded(slot) => one(out, b": refusal 6, ", slot),
-        Answer::ShortData(length) => one(out, b": refusal 7, ", length),
-        Answer::ShortArea(table) => one(out, b": refusal 8, ", table),
-        Answer::NoRoom(table) => one(out, b": refusal 9, ", table),
-        Answer::BadState => line(out, b": refusal 10"),
+        Answer::Done => println!(out; "{command}: done"),
+        Answer::Told(n) => println!(out; "{command}: told {n}"),
+        Answer::AllOutside(plane) => println!(out; "{command}: culled, all outside plane {plane}"),
+        Answer::FirstInside(l, r, b, t) => println!(out;
+            "{command}: not culled, first inside {l} {r} {b} {t}"
+        ),
+        Answer::BadLoad(count, first) => println!(out; "{command}: refusal 1, {count} {first}"),
+        Answer::BadCull(first, last) => println!(out; "{command}: refusal 2, {first} {last}"),
+        Answer::NotLoaded(slot) => println!(out; "{command}: refusal 3, {slot}"),
+        Answer::NoCode(slot) => println!(out; "{command}: refusal 4, {slot}"),
+        Answer::BadModify(slot, attribute) => println!(out;
+            "{command}: refusal 5, {slot} {attribute}"
+        ),
+        Answer::NeverLoaded(slot) => println!(out; "{command}: refusal 6, {slot}"),
+        Answer::ShortData(length) => println!(out; "{command}: refusal 7, {length}"),
+        Answer::ShortArea(table) => println!(out; "{command}: refusal 8, {table}"),
+        Answer::NoRoom(table) => println!(out; "{command}: refusal 9, {table}"),
+        Answer::BadState => println!(out; "{command}: refusal 10"),
     }
 }
 
 // Says the answer, and hands the state on.
-fn heard(out: &impl Print, command: &[u8], r: Answered) -> io::Result<State> {
+fn heard(out: &impl Print, command: &str, r: Answered) -> io::Result<State> {
     said(out, command, r.answer)?;
     Ok(r.state)
 }
@@ -66,7 +49,7 @@ fn opening(
     matrices: &mut [f32; 64],
     viewports: &mut [f32; 12],
 ) -> io::Result<State> {
-    heard(out, b"opening", State::opening(matrices, viewports))
+    heard(out, "opening", State::opening(matrices, viewports))
 }
 
 fn matrix(
@@ -76,7 +59,7 @@ fn matrix(
     data: &[u8; 64],
     matrices: &mut [f32; 64],
 ) -> io::Result<State> {
-    heard(out, b"matrix", s.matrix(flags, data, 0, matrices))
+    heard(out, "matrix", s.matrix(flags, data, 0, matrices))
 }
 
 fn viewport(
@@ -85,11 +68,11 @@ fn viewport(
     data: &[u8; 16],
     viewports: &mut [f32; 12],
 ) -> io::Result<State> {
-    heard(out, b"viewport", s.set_viewport(data, 0, viewports))
+    heard(out, "viewport", s.set_viewport(data, 0, viewports))
 }
 
 fn geometry(out: &impl Print, s: State, off: u32, on: u32) -> io::Result<State> {
-    heard(out, b"geometry mode", s.modify_geometry_mode(off, on))
+    heard(out, "geometry mode", s.modify_geometry_mode(off, on))
 }
 
 fn load(
@@ -109,19 +92,19 @@ fn load(
     let r = s.load(
         first, count, data, 0, matrices, scales, lights, lookats, fogs, floats, words,
     );
-    heard(out, b"load", r)
+    heard(out, "load", r)
 }
 
 fn cull_test(out: &impl Print, s: State, first: u32, last: u32) -> io::Result<State> {
-    heard(out, b"cull test", s.cull_display_list(first, last))
+    heard(out, "cull test", s.cull_display_list(first, last))
 }
 
 fn explain_cull(out: &impl Print, s: State, first: u32, last: u32) -> io::Result<State> {
-    heard(out, b"explain cull", s.explain_cull(first, last))
+    heard(out, "explain cull", s.explain_cull(first, last))
 }
 
 fn depth_test(out: &impl Print, s: State, slot: u32, threshold: u32) -> io::Result<State> {
-    heard(out, b"depth test", s.branch_z(slot, threshold))
+    heard(out, "depth test", s.branch_z(slot, threshold))
 }
 
 // The caller's four numbers are a material, 7, and nothing else.
@@ -134,7 +117,7 @@ fn draw(
     indices: &mut [u32; 30],
     runs: &mut [u32; 16],
 ) -> io::Result<State> {
-    heard(out, b"draw", s.draw_tri(i, j, k, 7, 0, 0, 0, indices, runs))
+    heard(out, "draw", s.draw_tri(i, j, k, 7, 0, 0, 0, indices, runs))
 }
 
 fn modify(
@@ -149,7 +132,7 @@ fn modify(
 ) -> io::Result<State> {
     heard(
         out,
-        b"modify",
+        "modify",
         s.modify_vertex(slot, attribute, value, scales, floats, words),
     )
 }
@@ -164,7 +147,7 @@ fn ink_count(
 ) -> io::Result<State> {
     heard(
         out,
-        b"ink count",
+        "ink count",
         s.ink_count(colour, floats, words, indices),
     )
 }
@@ -202,6 +185,7 @@ fn corners() -> [u8; 48] {
     v
 }
 
+// One list from the first command to the last: cut in two it would be no plainer.
 fn main(rt: HostRuntime) -> io::Result<()> {
     // What is lent: a caller decides how much.
     let mut matrices = [0.0f32; 64];
@@ -254,13 +238,10 @@ fn main(rt: HostRuntime) -> io::Result<()> {
     // Refused: slot 9 was never loaded, and modify has no attribute 17.
     s = draw(&rt, s, 0, 1, 9, &mut indices, &mut runs)?;
     s = modify(&rt, s, 1, 17, 0, &mut scales, &mut floats, &mut words)?;
-    one(&rt, b"rows in use: ", s.counts.rows)?;
-    one(&rt, b"indices in use: ", s.counts.indices)?;
-    one(&rt, b"runs in use: ", s.counts.runs)?;
-    one(&rt, b"material of the first run: ", runs[0])?;
-    one(
-        &rt,
-        b"colour word of slot 1's row: ",
-        colour_of(&words, s.row[1]),
-    )
+    println!(rt; "rows in use: {}", s.counts.rows)?;
+    println!(rt; "indices in use: {}", s.counts.indices)?;
+    println!(rt; "runs in use: {}", s.counts.runs)?;
+    println!(rt; "material of the first run: {}", runs[0])?;
+    let colour = colour_of(&words, s.row[1]);
+    println!(rt; "colour word of slot 1's row: {colour}")
 }
