@@ -1,5 +1,5 @@
 -- `stage::State::modify_geometry_mode` meets its contract. Assumes nothing.
-use mathlib.Core.Path.{refl, sym, ◌∙◌}
+use mathlib.Core.Path.{sym, ◌∙◌}
 use Rattle.stage.specs.Matrices.{geometry_plan}
 use Rattle.stage.specs.declared.Answer.TheVariants.{BadState}
 use Rattle.stage.specs.Plan.{nothing}

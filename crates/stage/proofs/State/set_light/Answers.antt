@@ -1,8 +1,6 @@
 -- `stage::State::set_light` meets its contract. Assumes nothing.
 use mathlib.Core.Path.{◌∙◌}
-use lib.Dec.{eqb}
 use borrow.Author.Tests.{eq-eqb, ne_eqb}
-use Rattle.stage.specs.Plan.{pick}
 use Rattle.stage.proofs.Lighting.{light-plan}
 use Rattle.stage.proofs.Cascade.{picked, left, reached, reads-done, reads-refused}
 use Rattle.stage.proofs.State.set_light.Goals as goal

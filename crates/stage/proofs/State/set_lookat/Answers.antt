@@ -1,7 +1,5 @@
 -- `stage::State::set_lookat` meets its contract. Assumes nothing.
-use Prim.Native.Nat.{◌+◌, ◌≤◌}
 use native.Mathlib.Omega.{arith}
-use lib.ListN.{length}
 use Rattle.stage.specs.Lights.{lookat_plan}
 use Rattle.stage.proofs.Cascade.{reached, reads-done, reads-refused}
 use Rattle.stage.proofs.State.set_lookat.Goals as goal

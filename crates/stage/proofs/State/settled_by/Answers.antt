@@ -10,7 +10,6 @@ use Rattle.matrix.specs.Math.{rows, laid, times}
 use Rattle.stage.specs.Plan.{pick}
 use Rattle.stage.proofs.Settling.{settled_is}
 use Rattle.areas.proofs.Tables.{length-entries}
-use borrow.Author.Rules.{rules}
 use Rattle.stage.proofs.State.settled_by.Goals as goal
 
 pub returns : goal.returns

@@ -1,5 +1,5 @@
 -- `stage::State::switch_microcode` meets its contract. Assumes nothing.
-use mathlib.Core.Path.{refl, sym, ◌∙◌}
+use mathlib.Core.Path.{sym, ◌∙◌}
 use lib.Ieee.{of_bits}
 use Rattle.stage.specs.Lights.{microcode_plan, switched}
 use Rattle.stage.specs.declared.Answer.TheVariants.{BadState}
