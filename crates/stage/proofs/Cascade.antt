@@ -1,12 +1,12 @@
 -- How a plan goes by its tests: a refusal where one fails, what comes after where it holds. Assumes nothing.
-use mathlib.Core.Path.{◌≡◌, sym, ◌∙◌}
-use mathlib.Core.Logic.{◌⊎◌, ⊎_elim}
+use mathlib.Core.Path.{◌≡◌, refl, sym, ◌∙◌}
 use Prim.Native.Nat.{ℕ, ◌+◌, ◌≤◌}
-use mathlib.Core.Bool.{Bool, true, false, not, ◌&&◌, false≢true}
-use mathlib.Core.List.{List, [], ◌∷◌}
+use mathlib.Core.Bool.{Bool, true, false, not}
+use mathlib.Core.List.{List, []}
 use lib.ListN.{length}
 use lib.Dec.{leb}
 use borrow.Author.Tests.{not-true, not-false, leb-true}
+use Rattle.std.specs.Prelude.{Result, Ok, Err}
 use Rattle.areas.specs.Area.{entries, room}
 use Rattle.areas.proofs.Tables.{length-entries}
 use Rattle.stage.specs.declared.State.{State}
@@ -17,7 +17,7 @@ use Rattle.stage.specs.Answers.{number, values}
 use Rattle.stage.specs.Plan.{Edits, Plan, refuse, does, unless, pick, needs, untouched, Outcome, outcome, carry, nothing}
 use Rattle.stage.specs.Sound.{state_sound, sound}
 use Rattle.stage.specs.With.{with_counts}
-use Rattle.stage.proofs.Judged.{and_right}
+use Rattle.stage.specs.Steps.{reads}
 
 -- `if !f() {` was taken, or left, where f answers b
 pub fails : {r b : Bool} → r ≡ b → not r ≡ true → b ≡ false
@@ -48,36 +48,57 @@ left b x y e = rw e
 
 -- ---- commands that are lent no table
 
--- one that only an unsound state refuses: by either way that its code took, the state became t or stayed as it was
-pub done-if-sound : {A B : Type 0} (s s' t : State) (b : Bool) (a : Answer) → A ⊎ B → b ≡ state_sound s → a ≡ pick b Done BadState
-    → (A → (b ≡ true) × (s' ≡ with_counts t s.counts)) → (B → (b ≡ false) × (s' ≡ s))
-    → outcome (record { state = s'; answer = a }) tt ≡ carry nothing (sound s (does [] t untouched)) s tt
-unfolding pick unless carry
-done-if-sound s s' t b a way e h f g = ⊎_elim (λ w. rw ((f w).1, h, ← e, (f w).0)) (λ w. rw ((g w).1, h, ← e, (g w).0)) way
+-- one that only an unsound state refuses is done where the state is sound
+pub done-sound : (s s' t : State) → state_sound s ≡ true → s' ≡ with_counts t s.counts
+    → outcome (record { state = s'; answer = Done }) tt ≡ carry nothing (sound s (does [] t untouched)) s tt
+unfolding unless carry
+done-sound s s' t e h = rw (e, h)
 
--- one that needs n bytes too
-pub done-if-there : {A B : Type 0} (s s' t : State) (n at : ℕ) (bytes : List ℕ) (b d : Bool) (a : Answer) → A ⊎ B → b ≡ state_sound s → d ≡ leb (at + n) (length bytes)
-    → a ≡ pick b (pick d Done (ShortData n)) BadState → (A → (b && d ≡ true) × (s' ≡ with_counts t s.counts)) → (B → (b && d ≡ false) × (s' ≡ s))
-    → outcome (record { state = s'; answer = a }) tt ≡ carry nothing (sound s (needs n at bytes (does [] t untouched))) s tt
-unfolding pick unless carry
-done-if-there s s' t n at bytes b d a way e k h f g = rw (h, ← e, ← k) (⊎_elim (λ w. did b d (f w).0 (f w).1) (λ w. kept b d (g w).0 (g w).1) way)
-  where
-    Comes : Bool → Bool → Type 0
-    Comes b d = outcome (record { state = s'; answer = pick b (pick d Done (ShortData n)) BadState }) tt ≡ carry nothing (unless b (refuse 10 []) (unless d (refuse 7 (n ∷ [])) (does [] t untouched))) s tt
+-- ---- one that needs n bytes too
 
-    did : (b d : Bool) → b && d ≡ true → s' ≡ with_counts t s.counts → Comes b d
-    did true true z q = rw q
-    did true false z q = absurd (false≢true z)
-    did false d z q = absurd (false≢true z)
+-- two refusals that are one, and one that is none
+pub same_refusal : {A : Type 0} (x y : Answer) → ◌≡◌ {A = Result A Answer} (Err x) (Err y) → x ≡ y
+same_refusal x y e = cc
 
-    kept : (b d : Bool) → b && d ≡ false → s' ≡ s → Comes b d
-    kept true true z q = absurd (false≢true (sym z))
-    kept true false z q = rw q
-    kept false d z q = rw q
+pub refused-not : {A : Type 0} (x : A) (y : Answer) → ◌≡◌ {A = Result A Answer} (Ok x) (Err y) → ⊥
+refused-not x y e = cc
 
--- the second of two tests that both hold, where it is a comparison
-pub reached : {d : Bool} (b : Bool) (m len : ℕ) → d ≡ leb m len → b && d ≡ true → m ≤ len
-reached {d} b m len e h = leb-true m len (sym e ∙ and_right b d h)
+module _ (s : State) (n at : ℕ) (bytes : List ℕ) where
+  -- by the two tests
+  abbrev read : Bool → Bool → Result (Unit {0}) Answer
+  read b d = pick b (pick d (Ok tt) (Err (ShortData n))) (Err BadState)
+
+  read_by : (b d : Bool) → Ok tt ≡ read b d → (b ≡ true) × (d ≡ true)
+  unfolding pick
+  read_by true true e = (refl, refl)
+  read_by true false e = absurd (refused-not _ _ e)
+  read_by false d e = absurd (refused-not _ _ e)
+
+  -- where nothing refuses it, the state is sound and the bytes are there
+  pub reads-on : Ok tt ≡ reads s (length bytes) at n → (state_sound s ≡ true) × (leb (at + n) (length bytes) ≡ true)
+  unfolding reads
+  reads-on e = read_by _ _ e
+
+  pub reached : Ok tt ≡ reads s (length bytes) at n → at + n ≤ length bytes
+  reached e = leb-true _ _ (reads-on e).1
+
+  -- nothing refuses it, and it is done
+  pub reads-done : (s' t : State) → Ok tt ≡ reads s (length bytes) at n → s' ≡ with_counts t s.counts
+      → outcome (record { state = s'; answer = Done }) tt ≡ carry nothing (sound s (needs n at bytes (does [] t untouched))) s tt
+  unfolding unless carry
+  reads-done s' t e h = let r = reads-on e in rw (r.0, r.1, h)
+
+  -- it is refused
+  pub reads-refused : (a : Answer) (p : Plan) → Err a ≡ reads s (length bytes) at n
+      → outcome (record { state = s; answer = a }) tt ≡ carry nothing (sound s (needs n at bytes p)) s tt
+  unfolding reads pick
+  reads-refused a p e = go _ _ refl refl e
+    where
+      go : (b d : Bool) → state_sound s ≡ b → leb (at + n) (length bytes) ≡ d → Err a ≡ read b d
+          → outcome (record { state = s; answer = a }) tt ≡ carry nothing (sound s (needs n at bytes p)) s tt
+      go true true x y q = absurd (refused-not _ _ (sym q))
+      go true false x y q = rw (same_refusal _ _ q) (passed nothing s tt _ _ _ _ _ x (refused nothing s tt _ _ (ShortData n) y))
+      go false d x y q = rw (same_refusal _ _ q) (refused nothing s tt _ _ BadState x)
 
 -- ---- tables
 

@@ -1,5 +1,5 @@
 -- The answer that is due before a command makes anything: it refuses the plan, or the plan comes to what follows the first tests. Assumes nothing.
-use mathlib.Core.Path.{◌≡◌, refl, sym, ap, ◌∙◌, subst}
+use mathlib.Core.Path.{◌≡◌, refl, sym, ap, ◌∙◌}
 use Prim.Native.Nat.{ℕ, ◌+◌, ◌≤◌}
 use native.Mathlib.Omega.{arith}
 use mathlib.Core.Bool.{Bool, true, false}
@@ -7,25 +7,19 @@ use mathlib.Core.List.{List, [], ◌∷◌}
 use lib.ListN.{length}
 use lib.Dec.{leb}
 use lib.Ieee.{Float}
-use types.Run.{OneOf, miss}
-use denote.Enum.Declared.{tag_of}
 use borrow.Author.Tests.{leb-true}
+use Rattle.std.specs.Prelude.{Result, Ok, Err}
 use Rattle.areas.specs.Area.{entries, room}
 use Rattle.stage.specs.declared.State.{State}
 use Rattle.stage.specs.declared.Counts.{Counts}
 use Rattle.stage.specs.declared.Answer.{Answer}
-use Rattle.stage.specs.declared.Answer.TheVariants.{Done, BadState, ShortData, ShortArea}
-use Rattle.stage.specs.contracts.Answer.{the_type}
+use Rattle.stage.specs.declared.Answer.TheVariants.{BadState, ShortData, ShortArea}
 use Rattle.stage.specs.Plan.{keep, Edits, Plan, refuse, pick, unless, table, lent, judge, needs, telling, Outcome, outcome, carry}
 use Rattle.stage.specs.Sound.{state_sound, sound}
-use Rattle.stage.specs.Steps.{early_in}
+use Rattle.stage.specs.Steps.{reads, early_in, and_then}
 use Rattle.stage.proofs.Judged.{Ranges, ranges}
-use Rattle.stage.proofs.Cascade.{refused, passed, table-holds}
+use Rattle.stage.proofs.Cascade.{refused, passed, same_refusal, refused-not, table-holds}
 use Rattle.stage.proofs.Telling.{telling-unless, telling-judge}
-
--- the tags of every answer but Done
-abbrev pub others : List ℕ
-others = 1 ∷ 2 ∷ 3 ∷ 4 ∷ 5 ∷ 6 ∷ 7 ∷ 8 ∷ 9 ∷ 10 ∷ 11 ∷ 12 ∷ 13 ∷ []
 
 -- the first tests of a command that reads need bytes from place at on, and is lent table k, of n entries of w numbers in the area l; then p
 abbrev pub tested : State → ℕ → ℕ → ℕ → ℕ → ℕ → List ℕ → List Float → Plan → Plan
@@ -43,17 +37,17 @@ pub record Clear (s : State) (w n need at : ℕ) (bytes : List ℕ) (l : List Fl
   pub fits : n ≤ room w (length l)
 
 module _ (s : State) (k w n need at : ℕ) (bytes : List ℕ) (l : List Float) (m : ℕ) (is-room : m ≡ room w (length l)) where
-  abbrev answered : Bool → Bool → Bool → Answer
-  answered b₁ b₂ b₃ = pick b₁ (pick b₂ (pick b₃ Done (ShortArea k)) (ShortData need)) BadState
+  abbrev answered : Bool → Bool → Bool → Result (Unit {0}) Answer
+  answered b₁ b₂ b₃ = and_then (pick b₁ (pick b₂ (Ok tt) (Err (ShortData need))) (Err BadState)) (pick b₃ (Ok tt) (Err (ShortArea k)))
 
   used : (b : Bool) → leb (n + 0) m ≡ b → leb (length (entries w n l) + 0) (room w (length l)) ≡ b
   used b e = sym (table-holds w n 0 m l b is-room (sym e))
 
-  clears : (b₁ b₂ b₃ : Bool) → state_sound s ≡ b₁ → leb (at + need) (length bytes) ≡ b₂ → leb (n + 0) m ≡ b₃ → tag_of the_type (answered b₁ b₂ b₃) ≡ 0 → Clear s w n need at bytes l
+  clears : (b₁ b₂ b₃ : Bool) → state_sound s ≡ b₁ → leb (at + need) (length bytes) ≡ b₂ → leb (n + 0) m ≡ b₃ → Ok tt ≡ answered b₁ b₂ b₃ → Clear s w n need at bytes l
   unfolding pick
-  clears false b₂ b₃ e₁ e₂ e₃ o = absurd (let z : ◌≡◌ {A = ℕ} 13 0 = o in omega arith)
-  clears true false b₃ e₁ e₂ e₃ o = absurd (let z : ◌≡◌ {A = ℕ} 10 0 = o in omega arith)
-  clears true true false e₁ e₂ e₃ o = absurd (let z : ◌≡◌ {A = ℕ} 11 0 = o in omega arith)
+  clears false b₂ b₃ e₁ e₂ e₃ o = absurd (refused-not _ _ o)
+  clears true false b₃ e₁ e₂ e₃ o = absurd (refused-not _ _ o)
+  clears true true false e₁ e₂ e₃ o = absurd (refused-not _ _ o)
   clears true true true e₁ e₂ e₃ o =
       record {
         sound = e₁;
@@ -62,27 +56,26 @@ module _ (s : State) (k w n need at : ℕ) (bytes : List ℕ) (l : List Float) (
         fits = let h : n + 0 ≤ m = leb-true _ _ e₃ in rw (← is-room) (omega arith);
       }
 
-  module _ (a : Answer) (told : a ≡ early_in s (length bytes) at need k n m) where
-    -- where the early answer is Done, the tests are passed
-    pub early-clear : tag_of the_type a ≡ 0 → Clear s w n need at bytes l
-    unfolding early_in
-    early-clear o = clears _ _ _ refl refl refl (sym (ap (tag_of the_type) told) ∙ o)
+  -- where nothing is due early, the tests are passed
+  pub early-clear : Ok tt ≡ early_in s (length bytes) at need k n m → Clear s w n need at bytes l
+  unfolding early_in reads
+  early-clear o = clears _ _ _ refl refl refl o
 
-    module _ (f : Counts → Edits → List Float → List Float) (p : Plan) where
-      abbrev Refuses : Answer → Type 0
-      Refuses x = outcome (record { state = s; answer = x }) l ≡ carry f (tested s k w n need at bytes l p) s l
+  module _ (a : Answer) (f : Counts → Edits → List Float → List Float) (p : Plan) where
+    abbrev Refuses : Answer → Type 0
+    Refuses x = outcome (record { state = s; answer = x }) l ≡ carry f (tested s k w n need at bytes l p) s l
 
-      refuses : (b₁ b₂ b₃ : Bool) → state_sound s ≡ b₁ → leb (at + need) (length bytes) ≡ b₂ → leb (n + 0) m ≡ b₃ → OneOf others (tag_of the_type (answered b₁ b₂ b₃)) → Refuses (answered b₁ b₂ b₃)
-      unfolding pick
-      refuses false b₂ b₃ e₁ e₂ e₃ o = refused f s l _ _ BadState e₁
-      refuses true false b₃ e₁ e₂ e₃ o = passed f s l _ _ _ _ _ e₁ (refused f s l _ _ (ShortData need) e₂)
-      refuses true true false e₁ e₂ e₃ o = passed f s l _ _ _ _ _ e₁ (passed f s l _ _ _ _ _ e₂ (refused f s l _ _ (ShortArea k) (used false e₃)))
-      refuses true true true e₁ e₂ e₃ o = absurd (miss others 0 tt o)
+    refuses : (b₁ b₂ b₃ : Bool) → state_sound s ≡ b₁ → leb (at + need) (length bytes) ≡ b₂ → leb (n + 0) m ≡ b₃ → Err a ≡ answered b₁ b₂ b₃ → Refuses a
+    unfolding pick
+    refuses false b₂ b₃ e₁ e₂ e₃ o = rw (same_refusal _ _ o) (refused f s l _ _ BadState e₁)
+    refuses true false b₃ e₁ e₂ e₃ o = rw (same_refusal _ _ o) (passed f s l _ _ _ _ _ e₁ (refused f s l _ _ (ShortData need) e₂))
+    refuses true true false e₁ e₂ e₃ o = rw (same_refusal _ _ o) (passed f s l _ _ _ _ _ e₁ (passed f s l _ _ _ _ _ e₂ (refused f s l _ _ (ShortArea k) (used false e₃))))
+    refuses true true true e₁ e₂ e₃ o = absurd (refused-not _ _ (sym o))
 
-      -- where it is another, it refuses the plan
-      pub early-refused : OneOf others (tag_of the_type a) → Refuses a
-      unfolding early_in
-      early-refused o = subst Refuses (sym told) (refuses _ _ _ refl refl refl (subst (λ (x : Answer). OneOf others (tag_of the_type x)) told o))
+    -- what is due early refuses the plan
+    pub early-refused : Err a ≡ early_in s (length bytes) at need k n m → Refuses a
+    unfolding early_in reads
+    early-refused o = refuses _ _ _ refl refl refl o
 
 -- past its first tests the plan comes to what follows them
 pub passed_on : (s : State) (k w n need at : ℕ) (bytes : List ℕ) (l : List Float) → Clear s w n need at bytes l → (f : Counts → Edits → List Float → List Float) (p : Plan) (o : Outcome (List Float))

@@ -3,15 +3,14 @@ use mathlib.Core.Path.{◌≡◌, refl, sym, ap, ◌∙◌, subst}
 use Prim.Native.Nat.{ℕ, zero, suc, ◌+◌, ◌*◌, ◌≤◌, min}
 use native.Mathlib.Omega.{arith}
 use mathlib.Core.Bool.{Bool, true, false, ◌&&◌}
-use lib.Dec.{leb, eqb}
-use borrow.Author.Tests.{leb-true, eqb-true, eqb-false}
-use mathlib.Core.Logic.{◌⊎◌, ⊎_elim}
-use types.Run.{OneOf, miss}
-use denote.Enum.Declared.{tag_of}
+use lib.Dec.{leb}
+use borrow.Author.Tests.{leb-true}
+use mathlib.Core.Logic.{⊎_elim}
 use mathlib.Core.List.{List, [], ◌∷◌, map}
 use lib.ListN.{length, length-map}
 use lib.IntN.{ℤ}
 use lib.Ieee.{Float}
+use Rattle.std.specs.Prelude.{Option, Some, None, Result, Ok, Err}
 use Rattle.areas.specs.Widths.{most, matrix_width, scale_width, fog_width, float_width, word_width}
 use Rattle.areas.specs.Area.{entries, room, write}
 use Rattle.areas.proofs.Tables.{length-entries, room_fits}
@@ -33,9 +32,8 @@ use Rattle.stage.specs.declared.Counts.{Counts}
 use Rattle.stage.specs.declared.Lights.{Lights}
 use Rattle.stage.specs.declared.Lookat.{Lookat}
 use Rattle.stage.specs.declared.Answer.{Answer}
-use Rattle.stage.specs.declared.Answer.TheVariants.{Done, Told, BadState, BadLoad, ShortData, ShortArea, NoRoom}
+use Rattle.stage.specs.declared.Answer.TheVariants.{Told, BadState, BadLoad, ShortData, ShortArea, NoRoom}
 use Rattle.stage.proofs.Filling.{loaded-by}
-use Rattle.stage.specs.contracts.Answer.{the_type}
 use Rattle.stage.specs.declared.load.Settled.{Settled}
 use Rattle.stage.specs.declared.load.More.{More}
 use Rattle.stage.specs.declared.load.Rooms.{Rooms}
@@ -44,12 +42,11 @@ use Rattle.stage.specs.Load.{settled, settled_state, lights_then, lookat_then, s
 use Rattle.stage.specs.Sound.{state_sound, limit}
 use Rattle.stage.specs.Rows.{fill_slots}
 use Rattle.stage.specs.With.{with_counts, with_combined, with_lights, with_lookat, Slots, with_slots}
-use Rattle.stage.specs.Steps.{six_lent, rooms_of, more_by, no_more, early_answer, late_answer, advance_tables, Ranged, TablesAre, RowsLaid, settled_in, Refused, Ready}
+use Rattle.stage.specs.Steps.{six_lent, rooms_of, more_by, no_more, unless_short, early_answer, late_answer, advance_tables, Ranged, TablesAre, RowsLaid, settled_in, Refused, Ready}
 use Rattle.stage.specs.declared.load.Prepared.{Prepared}
-use Rattle.stage.specs.Answers.{number}
 use Rattle.stage.proofs.Judged.{Ranges, ranges, and_right}
-use Rattle.stage.proofs.Tabled.{Numbered, fits-first, table-refused, table-passed}
-use Rattle.stage.proofs.Cascade.{refused, passed}
+use Rattle.stage.proofs.Tabled.{fits-first, table-refused, table-passed}
+use Rattle.stage.proofs.Cascade.{refused, passed, same_refusal, refused-not}
 
 -- ---- the tables, as the code judges them
 
@@ -82,22 +79,19 @@ load-more d s vs count h = λ i. record {
   rows = (length-map vs (vertex_row (shared_by d s)) ∙ h) i;
 }
 
-six-numbered : (c : Counts) (m : More) (r : Rooms) → Numbered (six_lent c m r)
-six-numbered c m r = (omega arith, (omega arith, (omega arith, (omega arith, (omega arith, (omega arith, tt))))))
-
 -- table 7 has room for the rows
-rows-room : (c : Counts) (m : More) (r : Rooms) → first_short (six_lent c m r) ≡ 0 → c.rows + m.rows ≤ r.rows
+rows-room : (c : Counts) (m : More) (r : Rooms) → first_short (six_lent c m r) ≡ None → c.rows + m.rows ≤ r.rows
 rows-room c m r e =
-    let a = fits-first _ _ (omega arith) e in
-    let b = fits-first _ _ (omega arith) a.1 in
-    let d = fits-first _ _ (omega arith) b.1 in
-    let f = fits-first _ _ (omega arith) d.1 in
-    let g = fits-first _ _ (omega arith) f.1 in
-    (fits-first _ _ (omega arith) g.1).0
+    let a = fits-first _ _ e in
+    let b = fits-first _ _ a.1 in
+    let d = fits-first _ _ b.1 in
+    let f = fits-first _ _ d.1 in
+    let g = fits-first _ _ f.1 in
+    (fits-first _ _ g.1).0
 
 -- ---- what has been judged by the time the rows are written
 
-fits-rows : (c : Counts) (d : Settled) (s : State) (m : More) (r : Rooms) (count f w : ℕ) → m ≡ more_by d s count → r.rows ≡ min (room float_width f) (room word_width w) → first_short (six_lent c m r) ≡ 0
+fits-rows : (c : Counts) (d : Settled) (s : State) (m : More) (r : Rooms) (count f w : ℕ) → m ≡ more_by d s count → r.rows ≡ min (room float_width f) (room word_width w) → first_short (six_lent c m r) ≡ None
     → (c.rows + count ≤ most) × ((c.rows + count) * float_width ≤ f) × ((c.rows + count) * word_width ≤ w)
 unfolding more_by
 fits-rows c d s m r count f w e g h =
@@ -134,13 +128,13 @@ rows_words : (e : Shared) (vs : List Vertex) → map (λ r. r.words) (map (verte
 rows_words e [] = refl
 rows_words e (v ∷ vs) = ap (λ (r : List (List ℕ)). words_of e v ∷ r) (rows_words e vs)
 
-module _ (s s' t : State) (d : Settled) (e : Shared) (m : List (List Float)) (c : Counts) (vs : List Vertex) (first count : ℕ) (a : Answer) (l k : LoadAreas)
+module _ (s s' t : State) (d : Settled) (e : Shared) (m : List (List Float)) (c : Counts) (vs : List Vertex) (first count : ℕ) (n : ℕ) (l k : LoadAreas)
     (is_state : s' ≡ settled_state d s)
     (is_shared : e ≡ shared_by d s)
     (is-matrix : m ≡ rows d.combined 0)
     (tables : TablesAre d s count (load_edits d s []) c l.matrices l.scales l.lights l.lookats l.fogs k.matrices k.scales k.lights k.lookats k.fogs)
     (laid : RowsLaid s' m e first vs l.floats l.words t k.floats k.words)
-    (is-answer : a ≡ Told (pick s.defined 0 1))
+    (is-notice : n ≡ pick s.defined 0 1)
     (is-count : length vs ≡ count) where
   kept : s'.counts ≡ s.counts
   unfolding settled_state
@@ -174,10 +168,10 @@ module _ (s s' t : State) (d : Settled) (e : Shared) (m : List (List Float)) (c 
       ∙ ap (λ (x : Shared). write word_width s.counts.rows (map (words_of x) vs) l.words) is_shared
       ∙ ap (λ (es : List (List ℕ)). write word_width s.counts.rows es l.words) (sym (rows_words (shared_by d s) vs))
 
-  pub load-done : outcome (record { state = with_counts t c; answer = a }) k ≡ carry areas_load (load_done d s first vs) s l
+  pub load-done : outcome (record { state = with_counts t c; answer = Told n }) k ≡ carry areas_load (load_done d s first vs) s l
   unfolding carry load_edits
   load-done =
-      ap (λ (x : Answer). outcome (record { state = with_counts t c; answer = x }) k) is-answer
+      ap (λ (x : ℕ). outcome (record { state = with_counts t c; answer = Told x }) k) is-notice
       ∙ λ i. record {
         state = with_counts (state-then i) (counts-then i);
         number = 0;
@@ -206,24 +200,21 @@ pub record Roomed (s : State) (l : LoadAreas) (first count at : ℕ) (bytes : Li
   pub judged : Judged s first count at bytes
   pub is-rooms : rooms ≡ rooms_of (length l.matrices) (length l.scales) (length l.lights) (length l.lookats) (length l.fogs) (length l.floats) (length l.words)
 
--- the first table that has less room than it holds, or 0
-abbrev pub short_of : State → Rooms → ℕ
+-- the first table that has less room than it holds
+abbrev pub short_of : State → Rooms → Option ℕ
 short_of s r = first_short (six_lent s.counts no_more r)
 
--- the first table that has less room than it is to hold, or 0
-abbrev pub full_of : State → Settled → ℕ → Rooms → ℕ
+-- the first table that has less room than it is to hold
+abbrev pub full_of : State → Settled → ℕ → Rooms → Option ℕ
 full_of s d count r = first_short (six_lent s.counts (more_by d s count) r)
 
 -- these, no table is short, and all is settled
 pub record Sized (s : State) (l : LoadAreas) (first count at : ℕ) (bytes : List ℕ) (rooms : Rooms) (d : Settled) : Type 0 where
   pub roomed : Roomed s l first count at bytes rooms
-  pub fits : short_of s rooms ≡ 0
+  pub fits : short_of s rooms ≡ None
   pub is-settled : d ≡ settled (family_of s.microcode) s (entries matrix_width s.counts.matrices l.matrices) (entries scale_width s.counts.scales l.scales) (entries fog_width s.counts.fogs l.fogs)
 
--- the tags of every answer but Done, and of every answer but Told
-abbrev pub undone : List ℕ
-undone = 1 ∷ 2 ∷ 3 ∷ 4 ∷ 5 ∷ 6 ∷ 7 ∷ 8 ∷ 9 ∷ 10 ∷ 11 ∷ 12 ∷ 13 ∷ []
-
+-- the tags of every answer but Told
 abbrev pub untold : List ℕ
 untold = 0 ∷ 2 ∷ 3 ∷ 4 ∷ 5 ∷ 6 ∷ 7 ∷ 8 ∷ 9 ∷ 10 ∷ 11 ∷ 12 ∷ 13 ∷ []
 
@@ -251,65 +242,62 @@ module _ (s : State) (l : LoadAreas) (first count at : ℕ) (bytes : List ℕ) w
   abbrev tables : Edits → List Lent
   tables e = load_lent (load_tables s.counts l) e
 
-  numbered : (e : Edits) (m : More) (r : Rooms) → tables e ≡ six_lent s.counts m r → Numbered (tables e)
-  numbered e m r h = subst Numbered (sym h) (six-numbered s.counts m r)
-
   module _ (r : Rooms) (t : Roomed s l first count at bytes r) where
     eight : tables untouched ≡ six_lent s.counts no_more r
     eight = six-lent s.counts l untouched no_more r t.is-rooms refl
 
-    way-short : (short_of s r ≡ 0 → ⊥) → outcome (record { state = s; answer = ShortArea (short_of s r) }) l ≡ carry areas_load load-plan s l
+    way-short : (k : ℕ) → short_of s r ≡ Some k → Refuses (ShortArea k)
     unfolding load_plan
-    way-short h =
+    way-short k h =
         passed areas_load s l _ _ _ _ _ t.judged.sound
         (passed areas_load s l _ _ _ _ _ t.judged.slots
         (passed areas_load s l _ _ _ _ _ t.judged.reach
-        (table-refused areas_load s l 8 (tables untouched) _ (ShortArea (short_of s r)) (short_of s r) (numbered untouched no_more r eight) (ap first_short (sym eight)) h refl refl)))
+        (table-refused areas_load s l 8 (tables untouched) _ (ShortArea k) k (ap first_short eight ∙ h) refl refl)))
 
-    to-eight : short_of s r ≡ 0 → (p : Plan) (o : Outcome LoadAreas) → o ≡ carry areas_load p s l → o ≡ carry areas_load (judge 8 (tables untouched) p) s l
-    to-eight z p o h = table-passed areas_load s l 8 (tables untouched) p o (short_of s r) (numbered untouched no_more r eight) (ap first_short (sym eight)) z h
+    to-eight : short_of s r ≡ None → (p : Plan) (o : Outcome LoadAreas) → o ≡ carry areas_load p s l → o ≡ carry areas_load (judge 8 (tables untouched) p) s l
+    to-eight z p o h = table-passed areas_load s l 8 (tables untouched) p o (ap first_short eight ∙ z) h
 
   -- the early answer, by its four tests
   module _ (r : Rooms) (is-rooms : r ≡ rooms_of (length l.matrices) (length l.scales) (length l.lights) (length l.lookats) (length l.fogs) (length l.floats) (length l.words)) where
-    abbrev answered : Bool → Bool → Bool → Bool → Answer
-    answered b₁ b₂ b₃ b₄ = pick b₁ (pick b₂ (pick b₃ (pick b₄ Done (ShortArea (short_of s r))) (ShortData (16 * count))) (BadLoad count first)) BadState
+    abbrev answered : Bool → Bool → Bool → Option ℕ → Result (Unit {0}) Answer
+    answered b₁ b₂ b₃ o = pick b₁ (pick b₂ (pick b₃ (unless_short o ShortArea tt) (Err (ShortData (16 * count)))) (Err (BadLoad count first))) (Err BadState)
 
     abbrev judgement : state_sound s ≡ true → (leb count 256 && leb (first + count) 256) ≡ true → leb (at + 16 * count) (length bytes) ≡ true → Roomed s l first count at bytes r
     judgement e₁ e₂ e₃ = record { judged = record { sound = e₁; slots = e₂; reach = e₃ }; is-rooms = is-rooms }
 
-    refuses : (b₁ b₂ b₃ b₄ : Bool) → state_sound s ≡ b₁ → (leb count 256 && leb (first + count) 256) ≡ b₂ → leb (at + 16 * count) (length bytes) ≡ b₃ → eqb (short_of s r) 0 ≡ b₄
-        → (number (answered b₁ b₂ b₃ b₄) ≡ 0 → ⊥) → Refuses (answered b₁ b₂ b₃ b₄)
+    refuses : (b₁ b₂ b₃ : Bool) (o : Option ℕ) → state_sound s ≡ b₁ → (leb count 256 && leb (first + count) 256) ≡ b₂ → leb (at + 16 * count) (length bytes) ≡ b₃ → short_of s r ≡ o
+        → (a : Answer) → answered b₁ b₂ b₃ o ≡ Err a → Refuses a
     unfolding pick
-    refuses false b₂ b₃ b₄ e₁ e₂ e₃ e₄ o = way-state e₁
-    refuses true false b₃ b₄ e₁ e₂ e₃ e₄ o = way-slots e₁ e₂
-    refuses true true false b₄ e₁ e₂ e₃ e₄ o = way-data e₁ e₂ e₃
-    refuses true true true false e₁ e₂ e₃ e₄ o = way-short r (judgement e₁ e₂ e₃) (eqb-false _ _ e₄)
-    refuses true true true true e₁ e₂ e₃ e₄ o = absurd (o refl)
+    refuses false b₂ b₃ o e₁ e₂ e₃ e₄ a q = subst Refuses (same_refusal _ _ q) (way-state e₁)
+    refuses true false b₃ o e₁ e₂ e₃ e₄ a q = subst Refuses (same_refusal _ _ q) (way-slots e₁ e₂)
+    refuses true true false o e₁ e₂ e₃ e₄ a q = subst Refuses (same_refusal _ _ q) (way-data e₁ e₂ e₃)
+    refuses true true true (Some k) e₁ e₂ e₃ e₄ a q = subst Refuses (same_refusal _ _ q) (way-short r (judgement e₁ e₂ e₃) k e₄)
+    refuses true true true None e₁ e₂ e₃ e₄ a q = absurd (refused-not _ _ q)
 
-    goes_on : (b₁ b₂ b₃ b₄ : Bool) → state_sound s ≡ b₁ → (leb count 256 && leb (first + count) 256) ≡ b₂ → leb (at + 16 * count) (length bytes) ≡ b₃ → eqb (short_of s r) 0 ≡ b₄
-        → number (answered b₁ b₂ b₃ b₄) ≡ 0 → Judged s first count at bytes × (short_of s r ≡ 0)
+    goes_on : (b₁ b₂ b₃ : Bool) (o : Option ℕ) → state_sound s ≡ b₁ → (leb count 256 && leb (first + count) 256) ≡ b₂ → leb (at + 16 * count) (length bytes) ≡ b₃ → short_of s r ≡ o
+        → answered b₁ b₂ b₃ o ≡ Ok tt → Judged s first count at bytes × (short_of s r ≡ None)
     unfolding pick
-    goes_on false b₂ b₃ b₄ e₁ e₂ e₃ e₄ o = absurd (let z : ◌≡◌ {A = ℕ} 10 0 = o in omega arith)
-    goes_on true false b₃ b₄ e₁ e₂ e₃ e₄ o = absurd (let z : ◌≡◌ {A = ℕ} 1 0 = o in omega arith)
-    goes_on true true false b₄ e₁ e₂ e₃ e₄ o = absurd (let z : ◌≡◌ {A = ℕ} 7 0 = o in omega arith)
-    goes_on true true true false e₁ e₂ e₃ e₄ o = absurd (let z : ◌≡◌ {A = ℕ} 8 0 = o in omega arith)
-    goes_on true true true true e₁ e₂ e₃ e₄ o = (record { sound = e₁; slots = e₂; reach = e₃ }, eqb-true _ _ e₄)
+    goes_on false b₂ b₃ o e₁ e₂ e₃ e₄ q = absurd (refused-not _ _ (sym q))
+    goes_on true false b₃ o e₁ e₂ e₃ e₄ q = absurd (refused-not _ _ (sym q))
+    goes_on true true false o e₁ e₂ e₃ e₄ q = absurd (refused-not _ _ (sym q))
+    goes_on true true true (Some k) e₁ e₂ e₃ e₄ q = absurd (refused-not _ _ (sym q))
+    goes_on true true true None e₁ e₂ e₃ e₄ q = (record { sound = e₁; slots = e₂; reach = e₃ }, e₄)
 
-    -- an early answer that refuses is the load's
-    pub way-early : (a : Answer) → a ≡ early_answer s first count (length bytes) at r → (number a ≡ 0 → ⊥) → Refuses a
+    -- an early refusal is the load's
+    pub way-early : (a : Answer) → early_answer s first count (length bytes) at r ≡ Err a → Refuses a
     unfolding early_answer
-    way-early a q o = subst Refuses (sym q) (refuses _ _ _ _ refl refl refl refl (λ e. o (ap number q ∙ e)))
+    way-early a q = refuses _ _ _ _ refl refl refl refl a q
 
-    -- where it does not, all four tests are passed
-    pub passed-early : number (early_answer s first count (length bytes) at r) ≡ 0 → Judged s first count at bytes × (short_of s r ≡ 0)
+    -- where there is none, all four tests are passed
+    pub passed-early : early_answer s first count (length bytes) at r ≡ Ok tt → Judged s first count at bytes × (short_of s r ≡ None)
     unfolding early_answer
-    passed-early o = goes_on _ _ _ _ refl refl refl refl o
+    passed-early q = goes_on _ _ _ _ refl refl refl refl q
 
   module _ (r : Rooms) (d : Settled) (z : Sized s l first count at bytes r d) where
     abbrev vs : List Vertex
     vs = vertices_at bytes at count
 
-    abbrev full : ℕ
+    abbrev full : Option ℕ
     full = full_of s d count r
 
     nine : tables (load_edits d s vs) ≡ six_lent s.counts (more_by d s count) r
@@ -328,41 +316,23 @@ module _ (s : State) (l : LoadAreas) (first count at : ℕ) (bytes : List ℕ) w
         (to-eight r z.roomed z.fits _ o
         (h ∙ ap (λ (x : Settled). carry areas_load (judged-nine x) s l) z.is-settled))))
 
-    numbered-nine : Numbered (tables (load_edits d s vs))
-    numbered-nine = numbered (load_edits d s vs) (more_by d s count) r nine
+    way-full : (k : ℕ) → full ≡ Some k → Refuses (NoRoom k)
+    way-full k h = to-nine _ (table-refused areas_load s l 9 (tables (load_edits d s vs)) (load_done d s first vs) (NoRoom k) k (ap first_short nine ∙ h) refl refl)
 
-    way-full : (full ≡ 0 → ⊥) → Refuses (NoRoom full)
-    way-full h = to-nine _ (table-refused areas_load s l 9 (tables (load_edits d s vs)) (load_done d s first vs) (NoRoom full) full numbered-nine (ap first_short (sym nine)) h refl refl)
+    pub way-done : full ≡ None → (o : Outcome LoadAreas) → o ≡ carry areas_load (load_done d s first vs) s l → o ≡ carry areas_load load-plan s l
+    way-done e o h = to-nine o (table-passed areas_load s l 9 (tables (load_edits d s vs)) (load_done d s first vs) o (ap first_short nine ∙ e) h)
 
-    pub way-done : full ≡ 0 → (o : Outcome LoadAreas) → o ≡ carry areas_load (load_done d s first vs) s l → o ≡ carry areas_load load-plan s l
-    way-done e o h = to-nine o (table-passed areas_load s l 9 (tables (load_edits d s vs)) (load_done d s first vs) o full numbered-nine (ap first_short (sym nine)) e h)
+    -- a late refusal is the load's
+    late-refuses : (o : Option ℕ) → full ≡ o → (a : Answer) → unless_short {A = ℕ} o NoRoom (pick s.defined 0 1) ≡ Err a → Refuses a
+    late-refuses (Some k) e a q = subst Refuses (same_refusal _ _ q) (way-full k e)
+    late-refuses None e a q = absurd (refused-not _ _ q)
 
-    -- the late answer, by its one test
-    abbrev told : ℕ
-    told = pick s.defined 0 1
-
-    late-refuses : (b : Bool) → eqb full 0 ≡ b → (number (pick b (Told told) (NoRoom full)) ≡ 0 → ⊥) → Refuses (pick b (Told told) (NoRoom full))
-    unfolding pick
-    late-refuses false e o = way-full (eqb-false _ _ e)
-    late-refuses true e o = absurd (o refl)
-
-    late-goes-on : (b : Bool) → eqb full 0 ≡ b → number (pick b (Told told) (NoRoom full)) ≡ 0 → (full ≡ 0) × (pick b (Told told) (NoRoom full) ≡ Told told)
-    unfolding pick
-    late-goes-on false e o = absurd (let z : ◌≡◌ {A = ℕ} 9 0 = o in omega arith)
-    late-goes-on true e o = (eqb-true _ _ e, refl)
-
-    -- a late answer that refuses is the load's
-    pub way-late : (a : Answer) → a ≡ late_answer d s count r → (number a ≡ 0 → ⊥) → Refuses a
+    pub way-late : (a : Answer) → late_answer d s count r ≡ Err a → Refuses a
     unfolding late_answer
-    way-late a q o = subst Refuses (sym q) (late-refuses _ refl (λ e. o (ap number q ∙ e)))
-
-    -- where it does not, no table is full, and it tells of the matrix
-    pub passed-late : (a : Answer) → a ≡ late_answer d s count r → number a ≡ 0 → (full ≡ 0) × (a ≡ Told told)
-    unfolding late_answer
-    passed-late a q o = let h = late-goes-on _ refl (sym (ap number q) ∙ o) in (h.0, q ∙ h.1)
+    way-late a q = late-refuses _ refl a q
 
     -- what the writing half asks for
-    pub load-ready : full ≡ 0 → Ranged s d × RowsFit s.counts.rows first count at bytes l.floats l.words
+    pub load-ready : full ≡ None → Ranged s d × RowsFit s.counts.rows first count at bytes l.floats l.words
     unfolding rooms_of
     load-ready e =
         let j = z.roomed.judged in
@@ -385,90 +355,32 @@ pub settled-then : (s : State) (d : Settled) {l : Lights} {o : Lookat} → l ≡
 unfolding settled_state
 settled-then s d p q = λ i. with_lookat (with_lights (with_combined s d.combined s.defined) (p i)) (q i)
 
--- ---- which answers refuse, by their tags
+-- ---- what a load that is not refused has shown
 
 module _ (s : State) (first count len at : ℕ) (r : Rooms) where
-  abbrev early-by : Bool → Bool → Bool → Bool → Answer
-  early-by b₁ b₂ b₃ b₄ = pick b₁ (pick b₂ (pick b₃ (pick b₄ Done (ShortArea (short_of s r))) (ShortData (16 * count))) (BadLoad count first)) BadState
-
-  early-tagged : (b₁ b₂ b₃ b₄ : Bool) → OneOf undone (tag_of the_type (early-by b₁ b₂ b₃ b₄)) → number (early-by b₁ b₂ b₃ b₄) ≡ 0 → ⊥
+  early-sound : (b : Bool) (x : Result (Unit {0}) Answer) → state_sound s ≡ b → pick b x (Err BadState) ≡ Ok tt → state_sound s ≡ true
   unfolding pick
-  early-tagged false b₂ b₃ b₄ o e = let z : ◌≡◌ {A = ℕ} 10 0 = e in omega arith
-  early-tagged true false b₃ b₄ o e = let z : ◌≡◌ {A = ℕ} 1 0 = e in omega arith
-  early-tagged true true false b₄ o e = let z : ◌≡◌ {A = ℕ} 7 0 = e in omega arith
-  early-tagged true true true false o e = let z : ◌≡◌ {A = ℕ} 8 0 = e in omega arith
-  early-tagged true true true true o e = miss undone 0 tt o
+  early-sound false x e q = absurd (refused-not _ _ (sym q))
+  early-sound true x e q = e
 
-  early-done : (b₁ b₂ b₃ b₄ : Bool) → tag_of the_type (early-by b₁ b₂ b₃ b₄) ≡ 0 → number (early-by b₁ b₂ b₃ b₄) ≡ 0
-  unfolding pick
-  early-done false b₂ b₃ b₄ o = absurd (let z : ◌≡◌ {A = ℕ} 13 0 = o in omega arith)
-  early-done true false b₃ b₄ o = absurd (let z : ◌≡◌ {A = ℕ} 4 0 = o in omega arith)
-  early-done true true false b₄ o = absurd (let z : ◌≡◌ {A = ℕ} 10 0 = o in omega arith)
-  early-done true true true false o = absurd (let z : ◌≡◌ {A = ℕ} 11 0 = o in omega arith)
-  early-done true true true true o = refl
-
-  early-sound : (b₁ b₂ b₃ b₄ : Bool) → state_sound s ≡ b₁ → number (early-by b₁ b₂ b₃ b₄) ≡ 0 → state_sound s ≡ true
-  unfolding pick
-  early-sound false b₂ b₃ b₄ e o = absurd (let z : ◌≡◌ {A = ℕ} 10 0 = o in omega arith)
-  early-sound true b₂ b₃ b₄ e o = e
-
-  -- where it does not refuse, the state's own numbers are in their ranges
-  pub sound-early : number (early_answer s first count len at r) ≡ 0 → Ranges s
+  -- the state's own numbers are in their ranges
+  pub sound-early : early_answer s first count len at r ≡ Ok tt → Ranges s
   unfolding early_answer
-  sound-early o = ranges s (early-sound _ _ _ _ refl o)
+  sound-early q = ranges s (early-sound _ _ refl q)
 
-  -- the early answer refuses unless it is Done
-  pub refuses-early : (a : Answer) → a ≡ early_answer s first count len at r → OneOf undone (tag_of the_type a) → number a ≡ 0 → ⊥
-  unfolding early_answer
-  refuses-early a q o e = early-tagged _ _ _ _ (subst (λ (x : Answer). OneOf undone (tag_of the_type x)) q o) (sym (ap number q) ∙ e)
+module _ (s : State) (d : Settled) (count : ℕ) (r : Rooms) (n : ℕ) where
+  late-by : (o : Option ℕ) → full_of s d count r ≡ o → unless_short {A = ℕ} o NoRoom (pick s.defined 0 1) ≡ Ok n → (full_of s d count r ≡ None) × (n ≡ pick s.defined 0 1)
+  late-by (Some k) e q = absurd (refused-not _ _ (sym q))
+  late-by None e q = (e, cc)
 
-  pub passes-early : (a : Answer) → a ≡ early_answer s first count len at r → tag_of the_type a ≡ 0 → number (early_answer s first count len at r) ≡ 0
-  unfolding early_answer
-  passes-early a q o = early-done _ _ _ _ (sym (ap (tag_of the_type) q) ∙ o)
-
-module _ (s : State) (d : Settled) (count : ℕ) (r : Rooms) where
-  late-tagged : (b : Bool) (n m : ℕ) → OneOf untold (tag_of the_type (pick b (Told n) (NoRoom m))) → number (pick b (Told n) (NoRoom m)) ≡ 0 → ⊥
-  unfolding pick
-  late-tagged false n m o e = let z : ◌≡◌ {A = ℕ} 9 0 = e in omega arith
-  late-tagged true n m o e = miss untold 1 tt o
-
-  late-told : (b : Bool) (n m : ℕ) → tag_of the_type (pick b (Told n) (NoRoom m)) ≡ 1 → number (pick b (Told n) (NoRoom m)) ≡ 0
-  unfolding pick
-  late-told false n m o = absurd (let z : ◌≡◌ {A = ℕ} 12 1 = o in omega arith)
-  late-told true n m o = refl
-
-  late-full : (b : Bool) (n m : ℕ) → eqb m 0 ≡ b → number (pick b (Told n) (NoRoom m)) ≡ 0 → m ≡ 0
-  unfolding pick
-  late-full false n m e o = absurd (let z : ◌≡◌ {A = ℕ} 9 0 = o in omega arith)
-  late-full true n m e o = eqb-true _ _ e
-
-  -- where it does not refuse, no table is full, and the rows are not too many
-  pub rows-count : (a : Answer) → a ≡ late_answer d s count r → number a ≡ 0 → (f w : ℕ) → r.rows ≡ min (room float_width f) (room word_width w) → s.counts.rows + count ≤ most
+  -- no table is full, and it tells of the matrix
+  pub passed-late : late_answer d s count r ≡ Ok n → (full_of s d count r ≡ None) × (n ≡ pick s.defined 0 1)
   unfolding late_answer
-  rows-count a q o f w e = (fits-rows s.counts d s (more_by d s count) r count f w refl e (late-full _ _ _ refl (sym (ap number q) ∙ o))).0
+  passed-late q = late-by _ refl q
 
-  -- the late answer refuses unless it is Told
-  pub refuses-late : (a : Answer) → a ≡ late_answer d s count r → OneOf untold (tag_of the_type a) → number a ≡ 0 → ⊥
-  unfolding late_answer
-  refuses-late a q o e = late-tagged _ _ _ (subst (λ (x : Answer). OneOf untold (tag_of the_type x)) q o) (sym (ap number q) ∙ e)
-
-  pub passes-late : (a : Answer) → a ≡ late_answer d s count r → tag_of the_type a ≡ 1 → number a ≡ 0
-  unfolding late_answer
-  passes-late a q o = ap number q ∙ late-told _ _ _ (sym (ap (tag_of the_type) q) ∙ o)
-
--- ---- what is prepared of a load, by its answer
-module _ (s : State) (d : Settled) (first count len at : ℕ) (r : Rooms) (a b l o : List Float) (f : List ℤ) (a' b' l' o' : List Float) (f' : List ℤ) (p : Prepared) where
-  abbrev Kept : Type 0
-  Kept = Refused s d first count len at r p.answer × (a' ≡ a) × (b' ≡ b) × (l' ≡ l) × (o' ≡ o) × (f' ≡ f)
-
-  abbrev Made : Type 0
-  Made = Ready s d first count len at r a b l o f a' b' l' o' f' p
-
-  pub is-ready : {n : ℕ} → Kept ⊎ Made → p.answer ≡ Told n → Made
-  is-ready h e = ⊎_elim (λ w. absurd (w.0.refuses (ap number e))) (λ w. w) h
-
-  pub is-refused : Kept ⊎ Made → OneOf untold (tag_of the_type p.answer) → Kept
-  is-refused h o = ⊎_elim (λ w. w) (λ w. absurd (refuses-late s d count r p.answer w.late o w.told)) h
+  -- the rows are not too many
+  pub rows-count : late_answer d s count r ≡ Ok n → (f w : ℕ) → r.rows ≡ min (room float_width f) (room word_width w) → s.counts.rows + count ≤ most
+  rows-count q f w e = (fits-rows s.counts d s (more_by d s count) r count f w refl e (passed-late q).0).0
 
 -- ---- the ways out of a load by what is prepared of it
 module _ (s : State) (l : LoadAreas) (first count at : ℕ) (bytes : List ℕ) (r : Rooms)
@@ -476,7 +388,7 @@ module _ (s : State) (l : LoadAreas) (first count at : ℕ) (bytes : List ℕ) (
   abbrev d : Settled
   d = settled_in s l.matrices l.scales l.fogs
 
-  sized : number (early_answer s first count (length bytes) at r) ≡ 0 → Sized s l first count at bytes r d
+  sized : early_answer s first count (length bytes) at r ≡ Ok tt → Sized s l first count at bytes r d
   sized h =
       let j = passed-early s l first count at bytes r is-rooms h in
       record { roomed = record { judged = j.0; is-rooms = is-rooms }; fits = j.1; is-settled = refl }
@@ -485,15 +397,15 @@ module _ (s : State) (l : LoadAreas) (first count at : ℕ) (bytes : List ℕ) (
   pub refused-load : (a : Answer) → Refused s d first count (length bytes) at r a → outcome (record { state = s; answer = a }) l ≡ carry areas_load (load-plan s l first count at bytes) s l
   refused-load a h =
       ⊎_elim
-      (λ e. way-early s l first count at bytes r is-rooms a e h.refuses)
-      (λ e. way-late s l first count at bytes r d (sized e.0) a e.1 h.refuses)
-      h.by
+      (λ e. way-early s l first count at bytes r is-rooms a e)
+      (λ e. way-late s l first count at bytes r d (sized e.0) a e.1)
+      h
 
   -- it is ready
   module _ (p : Prepared) (x : LoadAreas)
       (h : Ready s d first count (length bytes) at r l.matrices l.scales l.lights l.lookats l.fogs x.matrices x.scales x.lights x.lookats x.fogs p) where
-    passes : (full_of s d count r ≡ 0) × (p.answer ≡ Told (pick s.defined 0 1))
-    passes = passed-late s l first count at bytes r d (sized h.early) p.answer h.late h.told
+    passes : (full_of s d count r ≡ None) × (p.notice ≡ pick s.defined 0 1)
+    passes = passed-late s d count r p.notice h.late
 
     -- there is place for its rows
     pub rows_fit : RowsFit s.counts.rows first count at bytes l.floats l.words
@@ -511,10 +423,10 @@ module _ (s : State) (l : LoadAreas) (first count at : ℕ) (bytes : List ℕ) (
         → m ≡ rows p.combined 0
         → Laid m p.shared bytes at first s.counts.rows count l.floats l.words s.coded s.code s.deep s.z x.floats x.words q.coded q.code q.deep q.z
         → Marked first s.counts.rows count s.row s.ever s.loaded s.drawn q.row q.ever q.loaded q.drawn
-        → outcome (record { state = with_slots (with_counts settling p.counts) q; answer = p.answer }) x ≡ carry areas_load (load-plan s l first count at bytes) s l
+        → outcome (record { state = with_slots (with_counts settling p.counts) q; answer = Told p.notice }) x ≡ carry areas_load (load-plan s l first count at bytes) s l
     done-load m q is-matrix laid marked =
         way-done s l first count at bytes r d (sized h.early) passes.0 _
-        (load-done s settling (with_slots settling q) d p.shared m p.counts (vertices_at bytes at count) first count p.answer l x settles h.shared
+        (load-done s settling (with_slots settling q) d p.shared m p.counts (vertices_at bytes at count) first count p.notice l x settles h.shared
         (is-matrix ∙ ap (λ (c : List Float). rows c 0) h.combined)
         h.tables (loaded-by {s = settling} {l = q} laid marked) passes.1 (length-vertices bytes at count))
 

@@ -1,10 +1,10 @@
 -- A list of tables judged at once, by the first that does not fit. Assumes nothing.
-use mathlib.Core.Path.{◌≡◌, refl, subst}
-use Prim.Native.Nat.{ℕ, zero, suc, ◌+◌, ◌≤◌, ◌<◌}
-use native.Mathlib.Nat.{lt_irrefl}
+use mathlib.Core.Path.{◌≡◌, refl}
+use Prim.Native.Nat.{ℕ, ◌+◌, ◌≤◌}
 use mathlib.Core.Bool.{Bool, true, false}
 use mathlib.Core.List.{List, [], ◌∷◌}
 use borrow.Author.Tests.{leb-true}
+use Rattle.std.specs.Prelude.{Option, Some, None}
 use Rattle.decide.specs.Judge.{Lent, fits}
 use Rattle.decide.specs.Steps.{first_short}
 use Rattle.stage.specs.declared.State.{State}
@@ -13,45 +13,38 @@ use Rattle.stage.specs.declared.Answer.{Answer}
 use Rattle.stage.specs.Answers.{number, values}
 use Rattle.stage.specs.Plan.{Edits, Plan, refuse, unless, judge, Outcome, outcome, carry}
 
--- each table has a number above 0
-abbrev pub Numbered : List Lent → Type 0
-Numbered [] = Unit {0}
-Numbered (t ∷ ts) = (0 < t.number) × Numbered ts
-
 -- what follows where no table is named, else the refusal
-abbrev by_first : ℕ → ℕ → Plan → Plan
-by_first n zero p = p
-by_first n (suc k) p = refuse n (suc k ∷ [])
+abbrev by_first : ℕ → Option ℕ → Plan → Plan
+by_first n None p = p
+by_first n (Some k) p = refuse n (k ∷ [])
 
-one : (n k : ℕ) (b : Bool) (p q : Plan) (r : ℕ) → 0 < k → q ≡ by_first n r p → unless b (refuse n (k ∷ [])) q ≡ by_first n (unless b k r) p
+one : (n k : ℕ) (b : Bool) (p q : Plan) (r : Option ℕ) → q ≡ by_first n r p → unless b (refuse n (k ∷ [])) q ≡ by_first n (unless b (Some k) r) p
 unfolding unless
-one n zero b p q r h e = absurd (lt_irrefl 0 h)
-one n (suc k) true p q r h e = e
-one n (suc k) false p q r h e = refl
+one n k true p q r e = e
+one n k false p q r e = refl
 
-judged : (n : ℕ) (ts : List Lent) (p : Plan) → Numbered ts → judge n ts p ≡ by_first n (first_short ts) p
+judged : (n : ℕ) (ts : List Lent) (p : Plan) → judge n ts p ≡ by_first n (first_short ts) p
 unfolding first_short
-judged n [] p h = refl
-judged n (t ∷ ts) p h = one n t.number (fits t) p (judge n ts p) (first_short ts) h.0 (judged n ts p h.1)
+judged n [] p = refl
+judged n (t ∷ ts) p = one n t.number (fits t) p (judge n ts p) (first_short ts) (judged n ts p)
 
 -- a refusal names the first table that does not fit
-pub table-refused : {A : Type 0} (f : Counts → Edits → A → A) (s : State) (l : A) (n : ℕ) (ts : List Lent) (p : Plan) (a : Answer) (k : ℕ) → Numbered ts → k ≡ first_short ts → (k ≡ 0 → ⊥)
+pub table-refused : {A : Type 0} (f : Counts → Edits → A → A) (s : State) (l : A) (n : ℕ) (ts : List Lent) (p : Plan) (a : Answer) (k : ℕ) → first_short ts ≡ Some k
     → number a ≡ n → values a ≡ k ∷ [] → outcome (record { state = s; answer = a }) l ≡ carry f (judge n ts p) s l
 unfolding carry
-table-refused f s l n ts p a zero g e h x y = absurd (h refl)
-table-refused f s l n ts p a (suc k) g e h x y = rw (judged n ts p g, ← e, x, y)
+table-refused f s l n ts p a k e x y = rw (judged n ts p, e, x, y)
 
 -- where there is none, the plan comes to what follows
-pub table-passed : {A : Type 0} (f : Counts → Edits → A → A) (s : State) (l : A) (n : ℕ) (ts : List Lent) (p : Plan) (o : Outcome A) (k : ℕ) → Numbered ts → k ≡ first_short ts → k ≡ 0
+pub table-passed : {A : Type 0} (f : Counts → Edits → A → A) (s : State) (l : A) (n : ℕ) (ts : List Lent) (p : Plan) (o : Outcome A) → first_short ts ≡ None
     → o ≡ carry f p s l → o ≡ carry f (judge n ts p) s l
-table-passed f s l n ts p o k g e z h = rw (judged n ts p g, ← e, z) h
+table-passed f s l n ts p o e h = rw (judged n ts p, e) h
 
 -- each table fits where none is named
-split : (b : Bool) (n r : ℕ) → 0 < n → unless b n r ≡ 0 → (b ≡ true) × (r ≡ 0)
+split : (b : Bool) (k : ℕ) (r : Option ℕ) → unless b (Some k) r ≡ None → (b ≡ true) × (r ≡ None)
 unfolding unless
-split true n r h e = (refl, e)
-split false n r h e = absurd (lt_irrefl 0 (subst (λ (k : ℕ). 0 < k) e h))
+split true k r e = (refl, e)
+split false k r e = cc
 
-pub fits-first : (t : Lent) (ts : List Lent) → 0 < t.number → first_short (t ∷ ts) ≡ 0 → (t.used + t.more ≤ t.room) × (first_short ts ≡ 0)
+pub fits-first : (t : Lent) (ts : List Lent) → first_short (t ∷ ts) ≡ None → (t.used + t.more ≤ t.room) × (first_short ts ≡ None)
 unfolding first_short
-fits-first t ts h e = let s = split (fits t) t.number (first_short ts) h e in (leb-true _ _ s.0, s.1)
+fits-first t ts e = let s = split (fits t) t.number (first_short ts) e in (leb-true _ _ s.0, s.1)

@@ -1,14 +1,12 @@
 -- What private steps of the commands say of themselves. None of it is cited by a command's contract or by a theorem: a reader of the promises need
 -- not read it. Definitions only.
-use Rattle.std.specs.Prelude.{ℕ, ◌+◌, ◌*◌, ◌%◌, ◌≤◌, min, Bool, false, ◌&&◌, ◌≡◌, ◌⊎◌, List, [], ◌∷◌, map, length, get_or, leb, ltb, eqb, ℤ, Float}
+use Rattle.std.specs.Prelude.{ℕ, ◌+◌, ◌*◌, ◌%◌, ◌≤◌, min, Bool, false, ◌&&◌, ◌≡◌, ◌⊎◌, List, [], ◌∷◌, map, length, get_or, leb, ltb, ℤ, Float, Option, Some, None, Result, Ok, Err}
 use Rattle.areas.specs.Area.{room, entries, write}
 use Rattle.areas.specs.Widths.{most, matrix_width, scale_width, light_width, lookat_width, fog_width, float_width, word_width}
 use Rattle.layout.specs.declared.records.Vertex.{Vertex}
 use Rattle.decide.specs.Family.{family_of}
 use Rattle.decide.specs.Judge.{Lent}
 use Rattle.decide.specs.Steps.{first_short}
-use Rattle.decide.specs.declared.append.Append.{Append}
-use Rattle.decide.specs.declared.append.Append.TheVariants as append
 use Rattle.vertex.specs.declared.Shared.{Shared}
 use Rattle.vertex.specs.Vertices.{floats_of, words_of}
 use Rattle.change.specs.declared.judge.Slot.{Slot}
@@ -22,12 +20,11 @@ use Rattle.triangle.specs.declared.verdict.Verdict.TheVariants as verdict
 use Rattle.stage.specs.declared.State.{State}
 use Rattle.stage.specs.declared.Counts.{Counts}
 use Rattle.stage.specs.declared.Answer.{Answer}
-use Rattle.stage.specs.declared.Answer.TheVariants.{Done, Told, BadLoad, BadModify, NeverLoaded, ShortData, ShortArea, NoRoom, BadState}
+use Rattle.stage.specs.declared.Answer.TheVariants.{Done, BadLoad, BadModify, NeverLoaded, ShortData, ShortArea, NoRoom, BadState}
 use Rattle.stage.specs.declared.load.Settled.{Settled}
 use Rattle.stage.specs.declared.load.More.{More}
 use Rattle.stage.specs.declared.load.Rooms.{Rooms}
 use Rattle.stage.specs.declared.load.Prepared.{Prepared}
-use Rattle.stage.specs.Answers.{number}
 use Rattle.stage.specs.Load.{settled, shared_by, load_edits, lights_then, lookat_then}
 use Rattle.stage.specs.Plan.{Table, Row, Edits, pick, counted, matrix_area, scale_area, light_area, lookat_area, fog_area, after_in}
 use Rattle.stage.specs.Sound.{state_sound, limit}
@@ -38,21 +35,22 @@ use Rattle.stage.specs.Rows.{fill_slots}
 
 -- ---- matrices and viewport
 
--- the answer of a command that reads need bytes, and is lent one table with so many entries in use and such a room, that is due before anything is
--- made: Done where none is
-unfoldable pub early_in : State → ℕ → ℕ → ℕ → ℕ → ℕ → ℕ → Answer
-early_in s len at need number used room =
+-- the refusal that is due of a command that reads need bytes, before anything is made
+unfoldable pub reads : State → ℕ → ℕ → ℕ → Result (Unit {0}) Answer
+reads s len at need =
     pick (state_sound s)
-    (pick (leb (at + need) len)
-    (pick (leb (used + 0) room) Done (ShortArea number))
-    (ShortData need))
-    BadState
+    (pick (leb (at + need) len) (Ok tt) (Err (ShortData need)))
+    (Err BadState)
 
--- a table's count by what became of an entry
-abbrev pub count_after : Append → ℕ → ℕ
-count_after append.Kept n = n
-count_after append.Grew n = n + 1
-count_after append.Full n = n
+-- what comes after, unless it was refused
+abbrev pub and_then : {A : Type 0} → Result (Unit {0}) Answer → Result A Answer → Result A Answer
+and_then (Ok x) r = r
+and_then (Err a) r = Err a
+
+-- the same of one that is lent a table too, with so many entries in use and such a room
+unfoldable pub early_in : State → ℕ → ℕ → ℕ → ℕ → ℕ → ℕ → Result (Unit {0}) Answer
+early_in s len at need number used room =
+    and_then (reads s len at need) (pick (leb (used + 0) room) (Ok tt) (Err (ShortArea number)))
 
 -- ---- load
 
@@ -114,23 +112,25 @@ more_by d s count =
 abbrev pub no_more : More
 no_more = record { matrices = 0; scales = 0; lights = 0; lookats = 0; fogs = 0; rows = 0 }
 
--- the answer of a load that is due before anything is settled, by the rooms r of its areas and the length of its data: Done where none is
-unfoldable pub early_answer : State → ℕ → ℕ → ℕ → ℕ → Rooms → Answer
+-- x where no table is named, else the refusal r of the one that is
+abbrev pub unless_short : {A : Type 0} → Option ℕ → (ℕ → Answer) → A → Result A Answer
+unless_short None r x = Ok x
+unless_short (Some table) r x = Err (r table)
+
+-- the refusal that is due of a load before anything is settled, by the rooms r of its areas and the length of its data
+unfoldable pub early_answer : State → ℕ → ℕ → ℕ → ℕ → Rooms → Result (Unit {0}) Answer
 early_answer s first count len at r =
-    let short = first_short (six_lent s.counts no_more r) in
     pick (state_sound s)
     (pick (leb count (limit s) && leb (first + count) (limit s))
     (pick (leb (at + 16 * count) len)
-    (pick (eqb short 0) Done (ShortArea short))
-    (ShortData (16 * count)))
-    (BadLoad count first))
-    BadState
+    (unless_short (first_short (six_lent s.counts no_more r)) ShortArea tt)
+    (Err (ShortData (16 * count))))
+    (Err (BadLoad count first)))
+    (Err BadState)
 
--- the answer of a load that is due once all is settled: what is told of the matrix, or the first table that is full
-unfoldable pub late_answer : Settled → State → ℕ → Rooms → Answer
-late_answer d s count r =
-    let full = first_short (six_lent s.counts (more_by d s count) r) in
-    pick (eqb full 0) (Told (pick s.defined 0 1)) (NoRoom full)
+-- what a load comes to once all is settled: what is told of the matrix, or the refusal of the first table that is full
+unfoldable pub late_answer : Settled → State → ℕ → Rooms → Result ℕ Answer
+late_answer d s count r = unless_short (first_short (six_lent s.counts (more_by d s count) r)) NoRoom (pick s.defined 0 1)
 
 -- what a load settles, by the state and what is in use of tables 1, 3 and 6
 abbrev pub settled_in : State → List Float → List Float → List ℤ → Settled
@@ -138,27 +138,26 @@ settled_in s a b f =
     settled (family_of s.microcode) s (entries matrix_width s.counts.matrices a) (entries scale_width s.counts.scales b) (entries fog_width s.counts.fogs f)
 
 -- a load that is refused, early or late
-pub record Refused (s : State) (d : Settled) (first count len at : ℕ) (r : Rooms) (a : Answer) : Type 0 where
-  pub refuses : number a ≡ 0 → ⊥
-  pub by : (a ≡ early_answer s first count len at r) ⊎ ((number (early_answer s first count len at r) ≡ 0) × (a ≡ late_answer d s count r))
+abbrev pub Refused : State → Settled → ℕ → ℕ → ℕ → ℕ → Rooms → Answer → Type 0
+Refused s d first count len at r a =
+    (early_answer s first count len at r ≡ Err a) ⊎ ((early_answer s first count len at r ≡ Ok tt) × (late_answer d s count r ≡ Err a))
 
 -- a load that is ready for its rows: nothing refuses it, the tables before its rows are settled, and the parts of the state that it sets are made
 pub record Ready (s : State) (d : Settled) (first count len at : ℕ) (r : Rooms) (a b l o : List Float) (f : List ℤ) (a' b' l' o' : List Float) (f' : List ℤ) (p : Prepared) : Type 0 where
-  pub early : number (early_answer s first count len at r) ≡ 0
-  pub late : p.answer ≡ late_answer d s count r
-  pub told : number p.answer ≡ 0
+  pub early : early_answer s first count len at r ≡ Ok tt
+  pub late : late_answer d s count r ≡ Ok p.notice
   pub shared : p.shared ≡ shared_by d s
   pub tables : TablesAre d s count (load_edits d s []) p.counts a b l o f a' b' l' o' f'
   pub combined : p.combined ≡ d.combined
   pub lights : p.lights ≡ lights_then d s
   pub lookat : p.lookat ≡ lookat_then d s
 
--- what is prepared of a load, x and w the lengths of the rows' areas: it is refused, and the areas are as they were, or it is ready
-abbrev pub Prepares : State → ℕ → ℕ → ℕ → ℕ → ℕ → ℕ → List Float → List Float → List Float → List Float → List ℤ → List Float → List Float → List Float → List Float → List ℤ → Prepared → Type 0
-Prepares s first count len at x w a b l o f a' b' l' o' f' p =
-    let d = settled_in s a b f in
-    let r = rooms_of (length a) (length b) (length l) (length o) (length f) x w in
-    (Refused s d first count len at r p.answer × (a' ≡ a) × (b' ≡ b) × (l' ≡ l) × (o' ≡ o) × (f' ≡ f)) ⊎ Ready s d first count len at r a b l o f a' b' l' o' f' p
+-- what is prepared of a load, x and w the lengths of the rows' areas: it is ready, or it is refused, and the areas are as they were
+abbrev pub Prepares : State → ℕ → ℕ → ℕ → ℕ → ℕ → ℕ → List Float → List Float → List Float → List Float → List ℤ → List Float → List Float → List Float → List Float → List ℤ → Result Prepared Answer → Type 0
+Prepares s first count len at x w a b l o f a' b' l' o' f' (Ok p) =
+    Ready s (settled_in s a b f) first count len at (rooms_of (length a) (length b) (length l) (length o) (length f) x w) a b l o f a' b' l' o' f' p
+Prepares s first count len at x w a b l o f a' b' l' o' f' (Err e) =
+    Refused s (settled_in s a b f) first count len at (rooms_of (length a) (length b) (length l) (length o) (length f) x w) e × (a' ≡ a) × (b' ≡ b) × (l' ≡ l) × (o' ≡ o) × (f' ≡ f)
 
 -- what the state s and the areas f and w have become, once the vertices vs have their rows behind those in use and their slots from first on
 pub record RowsLaid (s : State) (m : List (List Float)) (e : Shared) (first : ℕ) (vs : List Vertex) (f : List Float) (w : List ℕ) (s' : State) (f' : List Float) (w' : List ℕ) : Type 0 where

@@ -58,11 +58,10 @@ pub struct Rooms {
     pub rows: usize,
 }
 
-// What a load has ready before its rows: its answer, and where that tells of the matrix what the rows share, the counts, and the parts of the
-// state that it sets.
+// What a load has ready before its rows: what it tells of the matrix, what the rows share, the counts, and the parts of the state that it sets.
 #[derive(Clone, Copy)]
 pub struct Prepared {
-    pub answer: Answer,
+    pub notice: u32,
     pub shared: Shared,
     pub counts: Counts,
     pub combined: [f32; 16],
@@ -115,41 +114,30 @@ fn no_more() -> More
     }
 }
 
-// The lowest table that has less room than it is to hold, or 0.
-fn short_table(c: Counts, m: More, r: Rooms) -> u32
+// A table as its judge sees it.
+fn fill(number: u32, used: u32, more: u32, room: usize) -> Fill
+    ensures { result ≡ record { number = number; used = used; more = more; room = room } }
+{
+    Fill {
+        number: number,
+        used: used,
+        more: more,
+        room: room,
+    }
+}
+
+// The lowest table that has less room than it is to hold.
+fn short_table(c: Counts, m: More, r: Rooms) -> Option<u32>
     ensures { result ≡ first_short (six_lent c m r) }
 {
-    let t1 = Fill {
-        used: c.matrices,
-        more: m.matrices,
-        room: r.matrices,
-    };
-    let t3 = Fill {
-        used: c.scales,
-        more: m.scales,
-        room: r.scales,
-    };
-    let t4 = Fill {
-        used: c.lights,
-        more: m.lights,
-        room: r.lights,
-    };
-    let t5 = Fill {
-        used: c.lookats,
-        more: m.lookats,
-        room: r.lookats,
-    };
-    let t6 = Fill {
-        used: c.fogs,
-        more: m.fogs,
-        room: r.fogs,
-    };
-    let t7 = Fill {
-        used: c.rows,
-        more: m.rows,
-        room: r.rows,
-    };
-    decide::judge::first_short(t1, t3, t4, t5, t6, t7)
+    decide::judge::first_short(&[
+        fill(1, c.matrices, m.matrices, r.matrices),
+        fill(3, c.scales, m.scales, r.scales),
+        fill(4, c.lights, m.lights, r.lights),
+        fill(5, c.lookats, m.lookats, r.lookats),
+        fill(6, c.fogs, m.fogs, r.fogs),
+        fill(7, c.rows, m.rows, r.rows),
+    ])
 }
 
 // The lights, folded with the model top m as entry n where that is due.
@@ -167,7 +155,7 @@ fn lights_then(lights: Lights, due: bool, m: [f32; 16], n: u32) -> Lights
     l
 }
 
-// The lookat axes likewise.
+// The lookat axes likewise: the same four lines, but of another record of the state, which has its place under another name.
 fn lookat_then(lookat: Lookat, due: bool, m: [f32; 16], n: u32) -> Lookat
     ensures { result ≡ pick due (folded_lookat lookat m n) lookat }
 {
@@ -222,7 +210,7 @@ impl State {
         let foggy = decide::geometry::is_foggy(family, self.geometry);
         let place = fold::fog::fog_place(fogs, self.counts.fogs, self.fogmul, self.fogoff);
         let matrix = !self.defined
-            & !decide::append::last_is(matrices, MATRIX_WIDTH, self.counts.matrices, &combined);
+            & !decide::append::last_is(matrices, self.counts.matrices, &combined);
         let scale = !fold::scales::scale_is(scales, self.counts.scales, entry);
         let ltop = self.lights.top;
         let light = lit
@@ -346,70 +334,46 @@ impl State {
         }
     }
 
-    // The answer of a load that is due before anything is settled: Done where none is.
-    fn early(self, first: u32, count: u32, len: usize, at: usize, rooms: Rooms) -> Answer
+    // The refusal of a load, where one is due before anything is settled.
+    fn early(
+        self,
+        first: u32,
+        count: u32,
+        len: usize,
+        at: usize,
+        rooms: Rooms,
+    ) -> Result<(), Answer>
         ensures { result ≡ early_answer self first count len at rooms }
     {
         if !self.sound() {
-            return Answer::BadState;
+            return Err(Answer::BadState);
         }
         if !decide::judge::slots_there(256, first, count) {
-            return Answer::BadLoad(count, first);
+            return Err(Answer::BadLoad(count, first));
         }
         let need = 16 * count;
         if !decide::judge::reaches(len, at, need as usize) {
-            return Answer::ShortData(need);
+            return Err(Answer::ShortData(need));
         }
-        let short = short_table(self.counts, no_more(), rooms);
-        if short != 0 {
-            return Answer::ShortArea(short);
+        match short_table(self.counts, no_more(), rooms) {
+            Some(short) => Err(Answer::ShortArea(short)),
+            None => Ok(()),
         }
-        Answer::Done
     }
 
-    // The answer that is due once all is settled: what is told of the matrix, or the first table that is full. Asks for a
+    // What is due once all is settled: what is told of the matrix, or a refusal by the first table that is full. Asks for a
     // light number in its range.
-    fn late(self, d: Settled, count: u32, rooms: Rooms) -> Answer
+    fn late(self, d: Settled, count: u32, rooms: Rooms) -> Result<u32, Answer>
         requires { self.lights.number ≤ 7 }
         ensures { result ≡ late_answer d self count rooms }
     {
-        let full = short_table(self.counts, self.more_by(d, count), rooms);
-        if full != 0 {
-            return Answer::NoRoom(full);
-        }
-        Answer::Told(decide::number::if_else(self.defined, 0, 1))
-    }
-
-    // Nothing prepared, but an answer.
-    fn unprepared(self, answer: Answer) -> Prepared
-        ensures { result.answer ≡ answer }
-    {
-        let combined = self.combined;
-        let l = self.lights;
-        let o = self.lookat;
-        let c = self.counts;
-        Prepared {
-            answer: answer,
-            shared: Shared {
-                matrix: 0,
-                viewport: 0,
-                scale: 0,
-                light: 0,
-                lights: 0,
-                texgen: 0,
-                fog: 0,
-                lookat: 0,
-                zscale: 0.0,
-                ztranslation: 0.0,
-            },
-            counts: c,
-            combined: combined,
-            lights: l,
-            lookat: o,
+        match short_table(self.counts, self.more_by(d, count), rooms) {
+            Some(full) => Err(Answer::NoRoom(full)),
+            None => Ok(decide::number::if_else(self.defined, 0, 1)),
         }
     }
 
-    // All that a load does before its rows: what it answers, and where it is done the tables written. `len`, `floats` and `words` are the lengths of its data and of the
+    // All that a load does before its rows: refused, or the tables written. `len`, `floats` and `words` are the lengths of its data and of the
     // areas that it does not write yet.
     fn settle(
         self,
@@ -424,7 +388,7 @@ impl State {
         lights: &mut [f32],
         lookats: &mut [f32],
         fogs: &mut [i16],
-    ) -> Prepared
+    ) -> Result<Prepared, Answer>
         ensures { Prepares self first count len at floats words matrices.old scales.old lights.old lookats.old fogs.old matrices.new scales.new lights.new lookats.new fogs.new result }
     {
         let rooms = rooms_of(
@@ -436,30 +400,24 @@ impl State {
             floats,
             words,
         );
-        let answer = self.early(first, count, len, at, rooms);
-        let Answer::Done = answer else {
-            return self.unprepared(answer);
-        };
+        self.early(first, count, len, at, rooms)?;
         let stack = self.stack;
         let d = self.settled_by(&stack, matrices, scales, fogs);
-        let late = self.late(d, count, rooms);
-        let Answer::Told(notice) = late else {
-            return self.unprepared(late);
-        };
+        let notice = self.late(d, count, rooms)?;
         let shared = self.shared_by(d);
         let counts = self.tables_written(d, count, matrices, scales, lights, lookats, fogs);
         let combined = d.combined;
         let model = d.model;
         let l = lights_then(self.lights, d.newlights, model, self.counts.lights);
         let o = lookat_then(self.lookat, d.newlookat, model, self.counts.lookats);
-        Prepared {
-            answer: late,
+        Ok(Prepared {
+            notice: notice,
             shared: shared,
             counts: counts,
             combined: combined,
             lights: l,
             lookat: o,
-        }
+        })
     }
 
     // Load (11): `count` vertices of 16 bytes into the slots from `first` on. Nothing is written before all is judged.
@@ -487,7 +445,7 @@ impl State {
         let mut code = self.code;
         let mut deep = self.deep;
         let mut z = self.z;
-        let p = self.settle(
+        let prepared = self.settle(
             first,
             count,
             data.len(),
@@ -500,40 +458,40 @@ impl State {
             lookats,
             fogs,
         );
-        let answer = p.answer;
-        if let Answer::Told(notice) = answer {
-            let combined = p.combined;
-            let m = matrix::math::from_flat(combined);
-            let n = self.counts.rows as usize;
-            let k = first as usize;
-            let c = count as usize;
-            vertex::fill(
-                floats,
-                words,
-                &mut row,
-                &mut ever,
-                &mut loaded,
-                &mut drawn,
-                &mut coded,
-                &mut code,
-                &mut deep,
-                &mut z,
-                k,
-                n,
-                c,
-                m,
-                p.shared,
-                data,
-                at,
-            );
-            let l = p.lights;
-            let o = p.lookat;
-            let counts = p.counts;
-            self.combined = combined;
-            self.lights = l;
-            self.lookat = o;
-            self.counts = counts;
-        }
+        let answer = match prepared {
+            Err(refusal) => refusal,
+            Ok(p) => {
+                let combined = p.combined;
+                let m = matrix::math::from_flat(combined);
+                let n = self.counts.rows as usize;
+                let k = first as usize;
+                let c = count as usize;
+                vertex::fill(
+                    floats,
+                    words,
+                    &mut row,
+                    &mut ever,
+                    &mut loaded,
+                    &mut drawn,
+                    &mut coded,
+                    &mut code,
+                    &mut deep,
+                    &mut z,
+                    k,
+                    n,
+                    c,
+                    m,
+                    p.shared,
+                    data,
+                    at,
+                );
+                self.combined = combined;
+                self.lights = p.lights;
+                self.lookat = p.lookat;
+                self.counts = p.counts;
+                Answer::Told(p.notice)
+            }
+        };
         self.row = row;
         self.ever = ever;
         self.loaded = loaded;

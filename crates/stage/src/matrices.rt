@@ -2,18 +2,16 @@
 ghost use Rattle.std.specs.Prelude.{◌≡◌, ◌+◌, ◌≤◌, length, false};
 ghost use Rattle.areas.specs.Widths.{most};
 ghost use Rattle.decide.specs.Family.{family_of};
-ghost use Rattle.stage.specs.declared.Answer.TheVariants.{Done, BadState};
 ghost use Rattle.stage.specs.Plan.{advance, outcome, carry, nothing, pick, matrix_area, viewport_area, table_in};
 ghost use Rattle.numbers.specs.Choice.{all};
 ghost use Rattle.stage.specs.With.{with_counts};
 ghost use Rattle.stage.specs.Sound.{count_tests, state_sound};
 ghost use Rattle.stage.specs.Opening.{blank, opened, opening_edits, opening_plan, areas12};
 ghost use Rattle.stage.specs.Matrices.{area1, area2, matrix_plan, force_plan, pop_plan, viewport_entry, viewport_plan, geometry_plan};
-ghost use Rattle.stage.specs.Steps.{early_in, count_after};
+ghost use Rattle.stage.specs.Steps.{reads, early_in};
 
 use crate::{Answer, Answered, Counts, Lights, Lookat, State, Texture};
 use areas::widths::{MATRIX_WIDTH, MOST, VIEWPORT_WIDTH};
-use decide::append::Append;
 
 // A state with every other number zero, every other mark cleared and every slot empty.
 fn blank_state(mark: bool, used: u32) -> State
@@ -93,17 +91,6 @@ fn opened_state() -> State
     s
 }
 
-// The answer of a command that only an unsound state refuses.
-pub(crate) fn done_if(sound: bool) -> Answer
-    ensures { result ≡ pick sound Done BadState }
-{
-    if sound {
-        Answer::Done
-    } else {
-        Answer::BadState
-    }
-}
-
 // Whether the counts are in their ranges.
 fn sound_counts(c: Counts) -> bool
     ensures { result ≡ all (count_tests c) }
@@ -119,18 +106,6 @@ fn sound_counts(c: Counts) -> bool
         & (c.rows <= MOST)
         & (c.indices <= MOST)
         & (c.runs <= MOST)
-}
-
-// A table's count once an entry was appended, or kept, or had no room. Asks for a count that does not wrap.
-fn count_after(how: Append, n: u32) -> u32
-    requires { n ≤ most }
-    ensures { result ≡ count_after how n }
-{
-    match how {
-        Append::Kept => n,
-        Append::Full => n,
-        Append::Grew => n + 1,
-    }
 }
 
 // The entry of table 2 that 16 bytes hold. Asks for them, since the data has been judged by then.
@@ -167,21 +142,32 @@ impl State {
     pub fn opening(matrices: &mut [f32], viewports: &mut [f32]) -> Answered
         ensures { outcome result (matrices.new, viewports.new) ≡ carry areas12 (opening_plan matrices.old viewports.old) (blank false) (matrices.old, viewports.old) }
     {
-        let short = decide::append::put_first(matrices, viewports);
-        if 0 < short {
-            return Answered {
+        match decide::append::put_first(matrices, viewports) {
+            Err(table) => Answered {
                 state: blank_state(false, 0),
-                answer: Answer::NoRoom(short),
-            };
-        }
-        Answered {
-            state: opened_state(),
-            answer: Answer::Done,
+                answer: Answer::NoRoom(table),
+            },
+            Ok(()) => Answered {
+                state: opened_state(),
+                answer: Answer::Done,
+            },
         }
     }
 
-    // The answer of a command that reads `need` bytes and is lent one table, with so many entries in use and such a room,
-    // that is due before anything is made: Done where none is.
+    // The refusal of a command that reads `need` bytes, where one is due before anything is made.
+    pub(crate) fn reads(self, len: usize, at: usize, need: u32) -> Result<(), Answer>
+        ensures { result ≡ reads self len at need }
+    {
+        if !self.sound() {
+            return Err(Answer::BadState);
+        }
+        if !decide::judge::reaches(len, at, need as usize) {
+            return Err(Answer::ShortData(need));
+        }
+        Ok(())
+    }
+
+    // The same of one that is lent a table too, with so many entries in use and such a room.
     fn early_in(
         self,
         len: usize,
@@ -190,19 +176,14 @@ impl State {
         table: u32,
         used: u32,
         room: usize,
-    ) -> Answer
+    ) -> Result<(), Answer>
         ensures { result ≡ early_in self len at need table used room }
     {
-        if !self.sound() {
-            return Answer::BadState;
-        }
-        if !decide::judge::reaches(len, at, need as usize) {
-            return Answer::ShortData(need);
-        }
+        self.reads(len, at, need)?;
         if !decide::judge::holds(used, 0, room) {
-            return Answer::ShortArea(table);
+            return Err(Answer::ShortArea(table));
         }
-        Answer::Done
+        Ok(())
     }
 
     // Matrix (6): flags push 1, load 2, projection 4, after the exclusive-or with 1 of the command word; 64 bytes. It tells how many of the
@@ -213,31 +194,34 @@ impl State {
         let family = decide::family::family_of(self.microcode);
         let n = self.counts.matrices;
         let room = areas::room_of(MATRIX_WIDTH, matrices.len());
-        let mut answer = self.early_in(data.len(), at, 64, 1, n, room);
         let old = self.stack;
         let mut stack = self.stack;
-        if let Answer::Done = answer {
-            let m = layout::matrix(data, at);
-            let inexact = layout::inexact(data, at);
-            let f = flags as u32;
-            let p = self.projection;
-            let t = decide::stack::take(family, f, m, &mut stack, p, self.depth);
-            let projection = t.projection;
-            let product = t.product;
-            let how = decide::append::append_f32(matrices, MATRIX_WIDTH, n, &product);
-            if let Append::Full = how {
-                answer = Answer::NoRoom(1);
-                stack = old;
-            } else {
-                answer = Answer::Told(inexact);
-                self.depth = t.depth;
-                self.projection = projection;
-                self.combined = product;
-                self.defined = true;
-                let used = count_after(how, n);
-                self.counts.matrices = used;
+        let answer = match self.early_in(data.len(), at, 64, 1, n, room) {
+            Err(refusal) => refusal,
+            Ok(()) => {
+                let m = layout::matrix(data, at);
+                let inexact = layout::inexact(data, at);
+                let f = flags as u32;
+                let p = self.projection;
+                let t = decide::stack::take(family, f, m, &mut stack, p, self.depth);
+                let projection = t.projection;
+                let product = t.product;
+                match decide::append::append(matrices, n, &product) {
+                    None => {
+                        stack = old;
+                        Answer::NoRoom(1)
+                    }
+                    Some(used) => {
+                        self.depth = t.depth;
+                        self.projection = projection;
+                        self.combined = product;
+                        self.defined = true;
+                        self.counts.matrices = used;
+                        Answer::Told(inexact)
+                    }
+                }
             }
-        }
+        };
         self.stack = stack;
         Answered {
             state: self,
@@ -251,21 +235,22 @@ impl State {
     {
         let n = self.counts.matrices;
         let room = areas::room_of(MATRIX_WIDTH, matrices.len());
-        let mut answer = self.early_in(data.len(), at, 64, 1, n, room);
-        if let Answer::Done = answer {
-            let m = matrix::math::to_flat(layout::matrix(data, at));
-            let inexact = layout::inexact(data, at);
-            let how = decide::append::append_f32(matrices, MATRIX_WIDTH, n, &m);
-            if let Append::Full = how {
-                answer = Answer::NoRoom(1);
-            } else {
-                answer = Answer::Told(inexact);
-                self.combined = m;
-                self.defined = true;
-                let used = count_after(how, n);
-                self.counts.matrices = used;
+        let answer = match self.early_in(data.len(), at, 64, 1, n, room) {
+            Err(refusal) => refusal,
+            Ok(()) => {
+                let m = matrix::math::to_flat(layout::matrix(data, at));
+                let inexact = layout::inexact(data, at);
+                match decide::append::append(matrices, n, &m) {
+                    None => Answer::NoRoom(1),
+                    Some(used) => {
+                        self.combined = m;
+                        self.defined = true;
+                        self.counts.matrices = used;
+                        Answer::Told(inexact)
+                    }
+                }
             }
-        }
+        };
         Answered {
             state: self,
             answer: answer,
@@ -278,27 +263,29 @@ impl State {
     {
         let n = self.counts.matrices;
         let room = areas::room_of(MATRIX_WIDTH, matrices.len());
-        let mut answer = self.early_in(0, 0, 0, 1, n, room);
         let d = decide::stack::popped_depth(count, self.depth);
         let stack = self.stack;
         let p = self.projection;
-        let mut due = false;
-        if let Answer::Done = answer {
-            due = d != self.depth;
-        }
-        if due {
-            let product = decide::stack::product_of(decide::stack::top_at(&stack, d), p);
-            let how = decide::append::append_f32(matrices, MATRIX_WIDTH, n, &product);
-            if let Append::Full = how {
-                answer = Answer::NoRoom(1);
-            } else {
-                self.depth = d;
-                self.combined = product;
-                self.defined = true;
-                let used = count_after(how, n);
-                self.counts.matrices = used;
+        let answer = match self.early_in(0, 0, 0, 1, n, room) {
+            Err(refusal) => refusal,
+            Ok(()) => {
+                if d == self.depth {
+                    Answer::Done
+                } else {
+                    let product = decide::stack::product_of(decide::stack::top_at(&stack, d), p);
+                    match decide::append::append(matrices, n, &product) {
+                        None => Answer::NoRoom(1),
+                        Some(used) => {
+                            self.depth = d;
+                            self.combined = product;
+                            self.defined = true;
+                            self.counts.matrices = used;
+                            Answer::Done
+                        }
+                    }
+                }
             }
-        }
+        };
         Answered {
             state: self,
             answer: answer,
@@ -311,18 +298,20 @@ impl State {
     {
         let n = self.counts.viewports;
         let room = areas::room_of(VIEWPORT_WIDTH, viewports.len());
-        let mut answer = self.early_in(data.len(), at, 16, 2, n, room);
-        if let Answer::Done = answer {
-            let entry = viewport_at(data, at);
-            let how = decide::append::append_f32(viewports, VIEWPORT_WIDTH, n, &entry);
-            if let Append::Full = how {
-                answer = Answer::NoRoom(2);
-            } else {
-                self.viewport = entry;
-                let used = count_after(how, n);
-                self.counts.viewports = used;
+        let answer = match self.early_in(data.len(), at, 16, 2, n, room) {
+            Err(refusal) => refusal,
+            Ok(()) => {
+                let entry = viewport_at(data, at);
+                match decide::append::append(viewports, n, &entry) {
+                    None => Answer::NoRoom(2),
+                    Some(used) => {
+                        self.viewport = entry;
+                        self.counts.viewports = used;
+                        Answer::Done
+                    }
+                }
             }
-        }
+        };
         Answered {
             state: self,
             answer: answer,
@@ -334,17 +323,18 @@ impl State {
         ensures { outcome result tt ≡ carry nothing (geometry_plan (family_of self.microcode) self off on) self tt }
     {
         let family = decide::family::family_of(self.microcode);
-        let sound = self.sound();
-        if sound {
+        let mut answer = Answer::BadState;
+        if self.sound() {
             let old = self.geometry;
             let new = mode::geometry_after(off, on, old);
             let changed = self.lights.changed | decide::stack::relights(family, old, new);
             self.geometry = new;
             self.lights.changed = changed;
+            answer = Answer::Done;
         }
         Answered {
             state: self,
-            answer: done_if(sound),
+            answer: answer,
         }
     }
 }

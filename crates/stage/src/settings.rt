@@ -1,11 +1,9 @@
 // Texture, fog, lights and lookat, and the change between microcodes.
 ghost use Rattle.std.specs.Prelude.{◌≡◌};
 ghost use Rattle.decide.specs.Lights.{light_number};
-ghost use Rattle.stage.specs.Plan.{outcome, carry, nothing, pick};
+ghost use Rattle.stage.specs.Plan.{outcome, carry, nothing};
 ghost use Rattle.stage.specs.Lights.{texture_plan, fog_plan, light_in, axis_in, number_plan, light_plan, lookat_plan, microcode_number, microcode_plan};
-ghost use Rattle.stage.specs.declared.Answer.TheVariants.{Done, ShortData, BadState};
 
-use crate::matrices::done_if;
 use crate::{Answer, Answered, Lights, Lookat, State, Texture};
 use layout::records::Light;
 
@@ -17,12 +15,14 @@ pub enum Microcode {
 }
 
 // The number by which a state holds its microcode.
-fn number_of(to: Microcode) -> u8
-    ensures { result ≡ microcode_number to }
-{
-    match to {
-        Microcode::F3dex2 => 0,
-        Microcode::F3dex2NoN => 1,
+impl From<Microcode> for u8 {
+    ghost from_gives = { λ to n. n ≡ microcode_number to };
+
+    fn from(to: Microcode) -> u8 {
+        match to {
+            Microcode::F3dex2 => 0,
+            Microcode::F3dex2NoN => 1,
+        }
     }
 }
 
@@ -53,28 +53,13 @@ fn with_axis(l: Lookat, slot: u32, direction: [f32; 3]) -> Lookat
     lookat
 }
 
-// The answer of a command that reads `need` bytes and writes no table.
-fn told_of(sound: bool, there: bool, need: u32) -> Answer
-    ensures { result ≡ pick sound (pick there Done (ShortData need)) BadState }
-{
-    if sound {
-        if there {
-            Answer::Done
-        } else {
-            Answer::ShortData(need)
-        }
-    } else {
-        Answer::BadState
-    }
-}
-
 impl State {
     // Texture (8): the five numbers as given.
     pub fn set_texture(mut self, tile: u8, level: u8, on: bool, sc: u16, tc: u16) -> Answered
         ensures { outcome result tt ≡ carry nothing (texture_plan self tile level on sc tc) self tt }
     {
-        let sound = self.sound();
-        if sound {
+        let mut answer = Answer::BadState;
+        if self.sound() {
             let t = Texture {
                 tile: tile,
                 level: level,
@@ -83,10 +68,11 @@ impl State {
                 tc: tc,
             };
             self.texture = t;
+            answer = Answer::Done;
         }
         Answered {
             state: self,
-            answer: done_if(sound),
+            answer: answer,
         }
     }
 
@@ -94,14 +80,15 @@ impl State {
     pub fn set_fog(mut self, multiplier: i16, offset: i16) -> Answered
         ensures { outcome result tt ≡ carry nothing (fog_plan self multiplier offset) self tt }
     {
-        let sound = self.sound();
-        if sound {
+        let mut answer = Answer::BadState;
+        if self.sound() {
             self.fogmul = multiplier;
             self.fogoff = offset;
+            answer = Answer::Done;
         }
         Answered {
             state: self,
-            answer: done_if(sound),
+            answer: answer,
         }
     }
 
@@ -109,15 +96,16 @@ impl State {
     pub fn set_num_lights(mut self, bytes: u32) -> Answered
         ensures { outcome result tt ≡ carry nothing (number_plan self (light_number bytes)) self tt }
     {
-        let sound = self.sound();
-        if sound {
+        let mut answer = Answer::BadState;
+        if self.sound() {
             let n = decide::lights::light_number(bytes);
             self.lights.number = n;
             self.lights.changed = true;
+            answer = Answer::Done;
         }
         Answered {
             state: self,
-            answer: done_if(sound),
+            answer: answer,
         }
     }
 
@@ -128,22 +116,24 @@ impl State {
     {
         let ambient = slot == self.lights.number;
         let need = decide::number::if_else(ambient, 3, 11);
-        let sound = self.sound();
-        let there = decide::judge::reaches(data.len(), at, need as usize);
-        if sound & there {
-            let mut l = self.lights;
-            if ambient {
-                let colour = layout::colour(data, at);
-                l.ambient = colour;
-            } else {
-                l = with_light(l, slot, layout::light(data, at));
+        let answer = match self.reads(data.len(), at, need) {
+            Err(refusal) => refusal,
+            Ok(()) => {
+                let mut l = self.lights;
+                if ambient {
+                    let colour = layout::colour(data, at);
+                    l.ambient = colour;
+                } else {
+                    l = with_light(l, slot, layout::light(data, at));
+                }
+                l.changed = true;
+                self.lights = l;
+                Answer::Done
             }
-            l.changed = true;
-            self.lights = l;
-        }
+        };
         Answered {
             state: self,
-            answer: told_of(sound, there, need),
+            answer: answer,
         }
     }
 
@@ -151,16 +141,18 @@ impl State {
     pub fn set_lookat(mut self, slot: u32, data: &[u8], at: usize) -> Answered
         ensures { outcome result tt ≡ carry nothing (lookat_plan self slot «data».now at) self tt }
     {
-        let sound = self.sound();
-        let there = decide::judge::reaches(data.len(), at, 11);
-        if sound & there {
-            let mut l = with_axis(self.lookat, slot, layout::direction(data, at + 8));
-            l.changed = true;
-            self.lookat = l;
-        }
+        let answer = match self.reads(data.len(), at, 11) {
+            Err(refusal) => refusal,
+            Ok(()) => {
+                let mut l = with_axis(self.lookat, slot, layout::direction(data, at + 8));
+                l.changed = true;
+                self.lookat = l;
+                Answer::Done
+            }
+        };
         Answered {
             state: self,
-            answer: told_of(sound, there, 11),
+            answer: answer,
         }
     }
 
@@ -168,9 +160,9 @@ impl State {
     pub fn switch_microcode(mut self, to: Microcode) -> Answered
         ensures { outcome result tt ≡ carry nothing (microcode_plan self to) self tt }
     {
-        let sound = self.sound();
-        if sound {
-            let n = number_of(to);
+        let mut answer = Answer::BadState;
+        if self.sound() {
+            let n = u8::from(to);
             let unmarked = [false; 256];
             self.microcode = n;
             self.defined = false;
@@ -180,10 +172,11 @@ impl State {
             self.coded = unmarked;
             self.code = [0; 256];
             self.deep = unmarked;
+            answer = Answer::Done;
         }
         Answered {
             state: self,
-            answer: done_if(sound),
+            answer: answer,
         }
     }
 }

@@ -5,7 +5,7 @@ use mathlib.Core.Bool.{true, ◌&&◌}
 use Prim.Native.Nat.{◌+◌, ◌*◌, ◌≤◌}
 use native.Mathlib.Omega.{arith}
 use lib.Dec.{leb}
-use borrow.Author.Tests.{leb-true, eq-eqb, ne_eqb}
+use borrow.Author.Tests.{leb-true}
 use Rattle.decide.specs.Steps.{first_short}
 use Rattle.stage.specs.declared.load.More.{More}
 use Rattle.stage.specs.Plan.{pick}
@@ -30,26 +30,26 @@ pub returns-then-not-reaches : goal.returns-then-not-reaches
 unfolding early_answer pick
 returns-then-not-reaches c = rw ((let is-sound : state_sound c.args.self ≡ true = holds c.sound.ensures (ap not c.if-not-sound.false) in is-sound), (let has-slots : let a = c.args in (leb a.count 256 && leb (a.first + a.count) 256) ≡ true = holds c.slots_there.ensures (ap not c.if-not-slots_there.false) in has-slots), fails c.reaches.ensures (ap not c.if-not-reaches.true))
 
-pub returns-then-short-ne0 : goal.returns-then-short-ne0
+pub returns-in-Some : goal.returns-in-Some
 unfolding early_answer pick
-returns-then-short-ne0 c =
+returns-in-Some c =
     rw (
       (let is-sound : state_sound c.args.self ≡ true = holds c.sound.ensures (ap not c.if-not-sound.false) in is-sound),
       (let has-slots : let a = c.args in (leb a.count 256 && leb (a.first + a.count) 256) ≡ true = holds c.slots_there.ensures (ap not c.if-not-slots_there.false) in has-slots),
       (let reaching : let a = c.args in leb (a.at + 16 * a.count) a.len ≡ true = holds c.reaches.ensures (ap not c.if-not-reaches.false) in reaching),
-      ← (let shortest : let a = c.args in c.short_table-short.result ≡ first_short (six_lent a.self.counts no_more a.rooms) = let a = c.args in
-          c.short_table-short.ensures ∙ ap (λ (m : More). first_short (six_lent a.self.counts m a.rooms)) c.no_more.ensures in shortest),
-      ne_eqb _ _ c.if-short-ne0.true,
+      ← (let shortest : let a = c.args in c.short_table.result ≡ first_short (six_lent a.self.counts no_more a.rooms) = let a = c.args in
+          c.short_table.ensures ∙ ap (λ (m : More). first_short (six_lent a.self.counts m a.rooms)) c.no_more.ensures in shortest),
+      c.in-Some.is,
     )
 
-pub returns : goal.returns
+pub returns-in-None : goal.returns-in-None
 unfolding early_answer pick
-returns c =
+returns-in-None c =
     rw (
       (let is-sound : state_sound c.args.self ≡ true = holds c.sound.ensures (ap not c.if-not-sound.false) in is-sound),
       (let has-slots : let a = c.args in (leb a.count 256 && leb (a.first + a.count) 256) ≡ true = holds c.slots_there.ensures (ap not c.if-not-slots_there.false) in has-slots),
       (let reaching : let a = c.args in leb (a.at + 16 * a.count) a.len ≡ true = holds c.reaches.ensures (ap not c.if-not-reaches.false) in reaching),
-      ← (let shortest : let a = c.args in c.short_table-short.result ≡ first_short (six_lent a.self.counts no_more a.rooms) = let a = c.args in
-          c.short_table-short.ensures ∙ ap (λ (m : More). first_short (six_lent a.self.counts m a.rooms)) c.no_more.ensures in shortest),
-      eq-eqb _ _ c.if-short-ne0.false,
+      ← (let shortest : let a = c.args in c.short_table.result ≡ first_short (six_lent a.self.counts no_more a.rooms) = let a = c.args in
+          c.short_table.ensures ∙ ap (λ (m : More). first_short (six_lent a.self.counts m a.rooms)) c.no_more.ensures in shortest),
+      c.in-None.is,
     )

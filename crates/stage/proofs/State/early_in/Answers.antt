@@ -1,28 +1,19 @@
--- `stage::State::early_in` meets its contract: each answer by the tests passed before it. Assumes nothing.
-use Rattle.std.proofs.Common.{not}
-use Rattle.std.proofs.Common.{ap}
-use mathlib.Core.Path.{◌≡◌}
-use mathlib.Core.Bool.{true}
-use Prim.Native.Nat.{◌+◌}
-use lib.Dec.{leb}
+-- `stage::State::early_in` meets its contract. Assumes nothing.
+use Rattle.std.proofs.Common.{not, ap}
+use Rattle.std.proofs.lemmas.Result.{err_from_is_err_and}
 use Rattle.stage.specs.Plan.{pick}
-use Rattle.stage.specs.Sound.{state_sound}
 use Rattle.stage.specs.Steps.{early_in}
 use Rattle.stage.proofs.Cascade.{fails, holds}
 use Rattle.stage.proofs.State.early_in.Goals as goal
 
-pub returns-then-not-sound : goal.returns-then-not-sound
-unfolding early_in pick
-returns-then-not-sound c = rw (fails c.sound.ensures (ap not c.if-not-sound.true))
-
-pub returns-then-not-reaches : goal.returns-then-not-reaches
-unfolding early_in pick
-returns-then-not-reaches c = rw ((let is-sound : state_sound c.args.self ≡ true = holds c.sound.ensures (ap not c.if-not-sound.false) in is-sound), fails c.reaches.ensures (ap not c.if-not-reaches.true))
+pub returns-in_err-reads : goal.returns-in_err-reads
+unfolding early_in
+returns-in_err-reads c = let p = err_from_is_err_and c.from_residual.result c.from_residual.ensures.1 in rw (p.1, p.2, ← c.in_err-reads.ensures)
 
 pub returns-then-not-holds : goal.returns-then-not-holds
 unfolding early_in pick
-returns-then-not-holds c = rw ((let is-sound : state_sound c.args.self ≡ true = holds c.sound.ensures (ap not c.if-not-sound.false) in is-sound), (let reaching : let a = c.args in leb (a.at + a.need) a.len ≡ true = holds c.reaches.ensures (ap not c.if-not-reaches.false) in reaching), fails c.holds.ensures (ap not c.if-not-holds.true))
+returns-then-not-holds c = rw (← c.in_ok-reads.ensures, fails c.holds.ensures (ap not c.if-not-holds.true))
 
 pub returns : goal.returns
 unfolding early_in pick
-returns c = rw ((let is-sound : state_sound c.args.self ≡ true = holds c.sound.ensures (ap not c.if-not-sound.false) in is-sound), (let reaching : let a = c.args in leb (a.at + a.need) a.len ≡ true = holds c.reaches.ensures (ap not c.if-not-reaches.false) in reaching), holds c.holds.ensures (ap not c.if-not-holds.false))
+returns c = rw (← c.in_ok-reads.ensures, holds c.holds.ensures (ap not c.if-not-holds.false))

@@ -1,9 +1,9 @@
--- `stage::State::opening` meets its contract: each way out by what was answered before it. Assumes nothing.
+-- `stage::State::opening` meets its contract: by which table has no room. Assumes nothing.
 use Rattle.stage.proofs.Opens.{opening-refused, opening-done}
 use Rattle.stage.proofs.State.opening.Goals as goal
 
-pub returns-then-short-gt0 : goal.returns-then-short-gt0
-returns-then-short-gt0 c = opening-refused _ _ _ _ _ (c.put_first-short.ensures.short, (c.put_first-short.ensures.matrices, c.put_first-short.ensures.viewports)) _ c.if-short-gt0.true c.blank_state.ensures
+pub returns-in-Err : goal.returns-in-Err
+returns-in-Err c = let p = c.put_first.ensures in opening-refused _ _ _ _ _ (p.short, (p.matrices, p.viewports)) _ _ c.in-Err.is c.blank_state.ensures
 
-pub returns : goal.returns
-returns c = opening-done _ _ _ _ _ (c.put_first-short.ensures.short, (c.put_first-short.ensures.matrices, c.put_first-short.ensures.viewports)) _ c.if-short-gt0.false c.opened_state.ensures
+pub returns-in-Ok : goal.returns-in-Ok
+returns-in-Ok c = let p = c.put_first.ensures in opening-done _ _ _ _ _ (p.short, (p.matrices, p.viewports)) _ c.in-Ok.is c.opened_state.ensures

@@ -10,14 +10,7 @@ use Rattle.matrix.specs.Math.{rows, laid, times}
 use Rattle.stage.specs.Plan.{pick}
 use Rattle.stage.proofs.Settling.{settled_is}
 use Rattle.areas.proofs.Tables.{length-entries}
-use borrow.Author.Rules.{rules}
 use Rattle.stage.proofs.State.settled_by.Goals as goal
-
-pub slice_bounds-last_is-end : goal.slice_bounds-last_is-end
-slice_bounds-last_is-end c = search (rules, c.combined_now-combined.type_inv)
-
-pub last_is-requires : goal.last_is-requires
-last_is-requires c = search (rules, c.combined_now-combined.type_inv)
 
 pub returns : goal.returns
 returns c =
