@@ -51,8 +51,8 @@ module _ {A : Type 0} where
           let cut = put-cut l at w vs (omega arith) (rw (← q) hw) in
           rw (q, drop-drop) (sym inside ∙ cut)
 
-  -- the part of an area copied further on
-  pub copy-part : (l : List A) (from to w : ℕ) → (from + w ≤ to) × (to + w ≤ length l) → paste l to (drop from l) (from + w - from) ≡ put l to (part l from w)
+  -- the part of an area copied to another place
+  pub copy-part : (l : List A) (from to w : ℕ) → (from + w ≤ length l) × (to + w ≤ length l) → paste l to (drop from l) (from + w - from) ≡ put l to (part l from w)
   copy-part l from to w h =
       let n : length (part l from w) ≡ w = length-take-le w (drop from l) (rw length-drop (omega arith)) in
       let k : from + w - from ≡ w = omega arith in

@@ -34,10 +34,10 @@ pub fn put<T: Copy>(area: &mut [T], at: usize, entry: &[T])
     area[start..start + wide].copy_from_slice(&entry[..wide]);
 }
 
-// The `width` numbers from place `from` on written again from `to` on. Asks that both lie in the area and do not
-// overlap: an entry is copied past all entries in use, once its room has been judged, and a test of each index would cost.
+// The `width` numbers from place `from` on written again from `to` on. Asks that both lie in the area: the room of an entry
+// has been judged by then, and a test of each index would cost.
 pub fn copy<T: Copy>(area: &mut [T], from: usize, to: usize, width: usize)
-    requires { (from + width ≤ to) × (to + width ≤ length area.old) }
+    requires { (from + width ≤ length area.old) × (to + width ≤ length area.old) }
     ensures { area.new ≡ put area.old to (part area.old from width) }
 {
     area.copy_within(from..from + width, to);

@@ -11,8 +11,8 @@ use lib.Seq.{length-take-le, sets-eq, take_at, take-take, drop_at, paste, length
 use lib.Dec.{ltb}
 use borrow.Author.Tests.{ltb-true, ltb-false}
 use borrow.Rule.Slice.PartMut.{mid_of, put_mid}
-use Rattle.std.specs.List.{copy_within}
 use Rattle.areas.specs.Area.{part, put, write}
+use Rattle.areas.proofs.Puts.{copy-part}
 use Rattle.areas.proofs.Tables.{take_put, drop-put, drop-put-add, write-one}
 
 -- two numbers that are not the same
@@ -56,13 +56,14 @@ module _ {A : Type 0} where
 
   -- the same of row `from`, changed and written as row `to`, where the code's numbers are those of the rows
   pub remade : (f : List A → List A) (l m ys : List A) (w from to n start at : ℕ) → (from ≤ to) × (to * w + w ≤ length l) → n ≡ w → start ≡ from * w → at ≡ to * w
-      → m ≡ copy_within l start (start + n) at → ys ≡ f (mid_of at (at + n - at) m) → length ys ≡ length (mid_of at (at + n - at) m)
+      → m ≡ put l at (part l start n) → ys ≡ f (mid_of at (at + n - at) m) → length ys ≡ length (mid_of at (at + n - at) m)
       → put_mid at (at + n - at) m ys ≡ write w to (f (part l (from * w) w) ∷ []) l
   remade f l m ys w from to n start at h en es ea em ey el =
       let k : from * w ≤ to * w = mul-le-mul_right w h.0 in
       let i : at + n - at ≡ w = omega arith in
-      let j : start + n - start ≡ w = omega arith in
-      let copy : m ≡ paste l at (drop start l) w = rw j at em in
+      let j : start + w - start ≡ w = omega arith in
+      let laid : paste l at (drop start l) (start + w - start) ≡ put l at (part l start w) = copy-part l start at w (omega arith, omega arith) in
+      let copy : m ≡ paste l at (drop start l) w = rw en at em ∙ sym (rw j at laid) in
       let whole : length m ≡ length l = rw copy (length-paste l at (drop start l) w (omega arith) (rw length-drop (omega arith))) in
       let long : length ys ≡ w = rw i at el ∙ part-long m at w (omega arith) in
       rw (write-one, ← es, ← ea, i, copy) (copied f l ys w start at (omega arith) (omega arith) long (rw (i, copy) at ey))

@@ -20,7 +20,7 @@ fn remake_row<T: RowNumber>(area: &mut [T], from: u32, to: u32, unit: u32, c: Ch
     let width = T::WIDTH as usize;
     let start = areas::place(T::WIDTH, from);
     let at = areas::place(T::WIDTH, to);
-    area.copy_within(start..start + width, at);
+    areas::copy(area, start, at, width);
     T::change(&mut area[at..at + width], c, unit.saturating_sub(1));
 }
 
