@@ -4,9 +4,8 @@ use Prim.Native.Nat.{compare}
 use native.Mathlib.Nat.{mul-mul-mul_comm, eq_of_mul-eq-mul_right, div-div-eq-div-mul}
 use lib.Dec.{eqb-suc-zero}
 use lib.Ieee.{Float, nan, inf, fin, Format, binary32, prec, emax, low, unlike, up, down, size, round, div, of_int, fits}
-use lib.Signed.{nat_abs-le}
 use mir.Syntax.{Width}
-use mir.Val.{bits, hbits}
+use mir.Val.{bits}
 use mir.ValLaws.{to_z-of_z}
 use lib.Ieee.Digits.{size-le}
 use lib.Ieee.Fits.{up_pos, down_pos, round_is, round-fits, nearest-le, kept-lt}
