@@ -18,7 +18,7 @@ pub fn is_foggy(f: Family, geometry: u32) -> bool
     crate::judge::has_flag(f.fog, geometry)
 }
 
-// 0 none, 1 texgen, 2 linear texgen; only where lit.
+// 0 none, 1 texgen, 2 linear texgen, as a row's texgen word has it; only where lit.
 #[tactic(auto, unfolding(crate::specs::Family::texgen_mode, numbers::specs::Choice::pick))]
 pub fn texgen_mode(f: Family, geometry: u32) -> u32
     ensures { result ≡ texgen_mode f geometry }

@@ -17,7 +17,8 @@ pub fn holds(used: u32, more: u32, room: usize) -> bool
     (used as usize) + (more as usize) <= room
 }
 
-// Whether the flag of value `v` is set in the word `x`; no word has the flag 0.
+// Whether the flag of value `v` is set in the word `x`; no word has the flag 0. By division and not by `&`, since the contract holds for
+// values that are no power of two as well.
 pub fn has_flag(v: u32, x: u32) -> bool
     ensures { result ≡ flag v x }
 {

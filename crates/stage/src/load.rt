@@ -243,9 +243,9 @@ impl State {
         let v = self.viewport;
         let n1 = self.counts.matrices;
         let n3 = self.counts.scales;
-        let matrix = decide::number::less_one(decide::number::if_else(d.newmatrix, n1 + 1, n1));
-        let viewport = decide::number::less_one(self.counts.viewports);
-        let scale = decide::number::less_one(decide::number::if_else(d.newscale, n3 + 1, n3));
+        let matrix = decide::number::if_else(d.newmatrix, n1 + 1, n1).saturating_sub(1);
+        let viewport = self.counts.viewports.saturating_sub(1);
+        let scale = decide::number::if_else(d.newscale, n3 + 1, n3).saturating_sub(1);
         let first = decide::number::if_else(d.newlights, self.counts.lights, self.lights.first);
         let place = decide::number::if_else(d.newlookat, self.counts.lookats, self.lookat.place);
         let light = decide::number::if_else(d.lit, first, 0);

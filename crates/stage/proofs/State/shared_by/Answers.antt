@@ -13,9 +13,9 @@ returns c =
     let d = c.args.d in
     let s = c.args.self in
     λ i. record {
-      matrix = (c.less_one-matrix.ensures ∙ ap (λ (n : ℕ). n - 1) (c.if_else.ensures ∙ counted_if d.newmatrix d.combined s.counts.matrices)) i;
-      viewport = c.less_one-viewport.ensures i;
-      scale = (c.less_one-scale.ensures ∙ ap (λ (n : ℕ). n - 1) (c.if_else-2.ensures ∙ counted_if d.newscale d.scales s.counts.scales)) i;
+      matrix = (c.saturating_sub-matrix.ensures ∙ ap (λ (n : ℕ). n - 1) (c.if_else.ensures ∙ counted_if d.newmatrix d.combined s.counts.matrices)) i;
+      viewport = c.saturating_sub-viewport.ensures i;
+      scale = (c.saturating_sub-scale.ensures ∙ ap (λ (n : ℕ). n - 1) (c.if_else-2.ensures ∙ counted_if d.newscale d.scales s.counts.scales)) i;
       light = (c.if_else-light.ensures ∙ ap (λ (n : ℕ). pick d.lit n 0) (c.if_else-first.ensures ∙ first_of d.newlights s.lights d.model s.counts.lights)) i;
       lights = c.if_else-lights.ensures i;
       texgen = d.texgen;
