@@ -1,4 +1,3 @@
 pub mod Believe
 pub mod Constants
-pub mod Bits
 pub mod Finite

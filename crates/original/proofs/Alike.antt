@@ -20,8 +20,8 @@ use Rattle.areas.specs.Widths.{fog_width}
 use Rattle.numbers.specs.Length.{length_of}
 use Rattle.matrix.specs.Math.{prod, times, row_times, col_times, laid}
 use Rattle.matrix.specs.Clip.{bit_of, bits_of, all_finite, code_of, screen_of, depth_of}
-use Rattle.matrix.specs.declared.clip.ClipCode.{ClipCode}
-use Rattle.matrix.specs.declared.clip.ScreenZ.{ScreenZ}
+use Rattle.std.specs.Prelude as here
+use Rattle.std.specs.Bool.{then_some}
 use Rattle.decide.specs.Family.{f3dex2, flag, lit, texgen_mode}
 use Rattle.decide.specs.Stack.{popped, relit}
 use Rattle.triangle.specs.Slot.{both, culls, swaps}
@@ -240,19 +240,19 @@ planes-sum a b c d e f =
     let s5 = next-plane e 4 _ (bit_of a 1 + bit_of b 2 + bit_of c 4 + bit_of d 8) s4 (omega arith) in
     next-plane f 5 _ (bit_of a 1 + bit_of b 2 + bit_of c 4 + bit_of d 8 + bit_of e 16) s5 (omega arith)
 
--- the stage's code: a mark and a value
-pub coded : (t : Bool) (n : ℕ) → ClipCode
-coded t n = pick t (record { some = true; bits = n }) (record { some = false; bits = 0 })
+-- the original's option of what the stage has as one
+abbrev pub told : {A : Type 0} → here.Option A → Option A
+told here.None = none
+told (here.Some x) = some x
 
--- it says what the Option says
-pub coded-is : (t : Bool) (n : ℕ) → cond {A = Option ℕ} t (some n) none ≡ cond (coded t n).some (some (coded t n).bits) none
-unfolding coded pick
-coded-is true n = refl
-coded-is false n = refl
+-- a test that lets a value through is a choice between that and none
+pub told-then : {A : Type 0} (t : Bool) (x : A) → cond t (some x) none ≡ told (then_some t x)
+told-then true x = refl
+told-then false x = refl
 
 -- the clip code
-pub code_same : (p : List Float) → clip_code p ≡ cond (code_of p).some (some (code_of p).bits) none
-unfolding clip_code code_of bits_of coded
+pub code_same : (p : List Float) → clip_code p ≡ told (code_of p)
+unfolding clip_code code_of bits_of
 code_same p =
     let x = ix p 0 in
     let y = ix p 1 in
@@ -260,34 +260,25 @@ code_same p =
     let w = ix p 3 in
     let e : finite x && (finite y && (finite z && finite w)) ≡ all_finite p = simp and_assoc in
     ap₂ (λ (t : Bool) (n : ℕ). cond {A = Option ℕ} t (some n) none) e (planes-sum (lt x (neg w)) (lt w x) (lt y (neg w)) (lt w y) (lt z (neg w)) (lt w z))
-    ∙ coded-is (all_finite p) (bits_of p)
+    ∙ told-then (all_finite p) (bits_of p)
 
--- the stage's screen z: a mark and a value
-pub depth : (t : Bool) (z : Float) → ScreenZ
-depth t z = pick t (record { some = true; z = z }) (record { some = false; z = f0 })
-
--- it says what the original's two tests in turn say
-pub depth_is : (e f : Bool) (z : Float) → cond {A = Option Float} e none (cond f (some z) none)
-    ≡ cond (depth (true && not e && f) z).some (some (depth (true && not e && f) z).z) none
-unfolding depth pick
+-- the original's two tests in turn are the stage's test
+pub depth_is : (e f : Bool) (z : Float) → cond {A = Option Float} e none (cond f (some z) none) ≡ told (then_some (true && not e && f) z)
 depth_is true f z = refl
 depth_is false true z = refl
 depth_is false false z = refl
 
--- the screen z, by whether there is a code
-pub screen-by : (t : Bool) (n : ℕ) (p scale trans : List Float)
-    → screen_z_of (cond t (some n) none) p scale trans
-    ≡ cond (depth_of p t (ix scale 2) (ix trans 2)).some (some (depth_of p t (ix scale 2) (ix trans 2)).z) none
-unfolding screen_z_of depth_of screen_of ne depth pick
-screen-by true n p scale trans = depth_is (eq (ix p 3) f0) (finite (screen_of p (ix scale 2) (ix trans 2))) (screen_of p (ix scale 2) (ix trans 2))
-screen-by false n p scale trans = refl
+-- the screen z, by the code
+pub screen-by : (o : here.Option ℕ) (p scale trans : List Float)
+    → screen_z_of (told o) p scale trans ≡ told (depth_of p (here.is_some o) (ix scale 2) (ix trans 2))
+unfolding screen_z_of depth_of screen_of ne
+screen-by (here.Some n) p scale trans = depth_is (eq (ix p 3) f0) (finite (screen_of p (ix scale 2) (ix trans 2))) (screen_of p (ix scale 2) (ix trans 2))
+screen-by here.None p scale trans = refl
 
 -- the screen z
 pub screen-same : (p scale trans : List Float)
-    → let d = depth_of p (code_of p).some (ix scale 2) (ix trans 2) in
-    screen_z_of (clip_code p) p scale trans ≡ cond d.some (some d.z) none
-screen-same p scale trans =
-    ap (λ (o : Option ℕ). screen_z_of o p scale trans) (code_same p) ∙ screen-by (code_of p).some (code_of p).bits p scale trans
+    → screen_z_of (clip_code p) p scale trans ≡ told (depth_of p (here.is_some (code_of p)) (ix scale 2) (ix trans 2))
+screen-same p scale trans = ap (λ (o : Option ℕ). screen_z_of o p scale trans) (code_same p) ∙ screen-by (code_of p) p scale trans
 
 -- ---- pops
 

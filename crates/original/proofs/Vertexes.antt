@@ -2,18 +2,15 @@
 use mathlib.Core.Path.{◌≡◌, refl, sym, ap, ap₂, ◌∙◌}
 use Prim.Native.Nat.{ℕ, zero, suc, ◌+◌, ◌*◌, ◌≤◌}
 use native.Mathlib.Omega.{arith}
-use mathlib.Core.Bool.{Bool, true, false, ◌&&◌, cond, false≢true}
+use mathlib.Core.Bool.{Bool, true, false}
 use mathlib.Core.List.{List, [], ◌∷◌, ◌++◌, map, append-nil, append_assoc}
-use mathlib.Core.Option.{none, some}
 use lib.ListN.{length, get_or, set}
 use lib.IntN.{pos}
-use lib.Ieee.{Float, binary32, of_int, ne}
-use lib.Ieee.Scale.{finite}
+use lib.Ieee.{Float, binary32, of_int}
+use Rattle.std.specs.Prelude as here
 use Rattle.matrix.specs.Math as math
 use Rattle.matrix.specs.Math.{at, one, row_times, rows, laid}
-use Rattle.matrix.specs.declared.clip.ClipCode.{ClipCode}
-use Rattle.matrix.specs.declared.clip.ScreenZ.{ScreenZ}
-use Rattle.matrix.specs.Clip.{all_finite, bits_of, code_of, screen_of, depth_of}
+use Rattle.matrix.specs.Clip.{code_of, depth_of}
 use Rattle.layout.specs.declared.records.Vertex.{Vertex}
 use Rattle.layout.specs.Layout.{vertex_at}
 use Rattle.vertex.specs.declared.Shared.{Shared}
@@ -29,11 +26,10 @@ use Rattle.original.specs.Rsp.{Slots}
 use Rattle.original.specs.Drawing.{Columns, push, clip_code, Sharing, from_le, slot_then, made_by, vertices, slots_then, columns_then}
 use Rattle.original.specs.Relation.{over, Offsets, is_some, or_else, SlotsSame, made_of, RowsSame}
 use Rattle.original.specs.Domain.{Data}
-use Rattle.original.proofs.Alike.{row_same, code_same, screen-same}
+use Rattle.original.proofs.Alike.{row_same, told, code_same, screen-same}
 use Rattle.original.proofs.Readers.{vertex-same}
 use Rattle.original.proofs.Draws.{map-set}
 use Rattle.original.proofs.RowsOf.{row_pushed}
-use Rattle.numbers.specs.Choice.{pick}
 
 -- what the rows share, by the names that each side has for it
 pub record ShareSame (o : Offsets) (e : Shared) (x : Sharing) : Type 0 where
@@ -50,37 +46,14 @@ pub record ShareSame (o : Offsets) (e : Shared) (x : Sharing) : Type 0 where
   pub since2 : o.port2 ≤ e.viewport
   pub since3 : o.port3 ≤ e.scale
 
--- a mark and a value, and the option that they stand for
-some-mark : {A : Type 0} (b : Bool) (x : A) → is_some (cond b (some x) none) ≡ b
-some-mark true x = refl
-some-mark false x = refl
+-- whether the original's option has a value, and the value or d, are what the stage's says
+told-mark : {A : Type 0} (o : here.Option A) → is_some (told o) ≡ here.is_some o
+told-mark here.None = refl
+told-mark (here.Some x) = refl
 
-some-value : {A : Type 0} (d : A) (b : Bool) (x : A) → (b ≡ false → x ≡ d) → or_else d (cond b (some x) none) ≡ x
-some-value d true x h = refl
-some-value d false x h = sym (h refl)
-
--- no code is 0, no depth is zero
-no_bits : (p : List Float) → (code_of p).some ≡ false → (code_of p).bits ≡ 0
-unfolding code_of pick
-no_bits p = go (all_finite p)
-  where
-    code : Bool → ClipCode
-    code b = pick b (record { some = true; bits = bits_of p }) (record { some = false; bits = 0 })
-
-    go : (b : Bool) → (code b).some ≡ false → (code b).bits ≡ 0
-    go true h = absurd (false≢true (sym h))
-    go false h = refl
-
-no-depth : (p : List Float) (c : Bool) (s t : Float) → (depth_of p c s t).some ≡ false → (depth_of p c s t).z ≡ math.zero
-unfolding depth_of pick
-no-depth p c s t = go (c && ne (at p 3) math.zero && finite (screen_of p s t))
-  where
-    depth : Bool → ScreenZ
-    depth b = pick b (record { some = true; z = screen_of p s t }) (record { some = false; z = math.zero })
-
-    go : (b : Bool) → (depth b).some ≡ false → (depth b).z ≡ math.zero
-    go true h = absurd (false≢true (sym h))
-    go false h = refl
+told-value : {A : Type 0} (d : A) (o : here.Option A) → or_else d (told o) ≡ here.unwrap_or o d
+told-value d here.None = refl
+told-value d (here.Some x) = refl
 
 -- a matrix laid out and read again is the same to a point
 point-laid : (v : List Float) (m : Mat4) → row_times v (rows (laid m) 0) ≡ row_times v m
@@ -109,21 +82,22 @@ module _ (o : Offsets) (e : Shared) (x : Sharing) (H : ShareSame o e x) (m : Lis
     -- the slot
     slot_same : {r : List ℕ} {l d c : List Bool} {q : List ℕ} {g : List Bool} {f : List Float} {y : Slots} → SlotsSame r l d c q g f y → (k n : ℕ)
         → let s = slot_of m e v in
-        SlotsSame (set r k n) (set l k true) (set d k false) (set c k s.coded) (set q k s.code) (set g k s.deep) (set f k s.z) (slot_then x rv k n y)
+        SlotsSame (set r k n) (set l k true) (set d k false) (set c k (here.is_some s.code)) (set q k (here.unwrap_or s.code 0)) (set g k (here.is_some s.z)) (set f k (here.unwrap_or s.z math.zero)) (slot_then x rv k n y)
     unfolding slot_then slot_of slot_at
     slot_same {r} {l} {d} {c} {q} {g} {f} {y} S k n =
-        let w : List Float = clip_of m v in
-        let a : clip_code (clip_of m v) ≡ cond (code_of (clip_of m v)).some (some (code_of (clip_of m v)).bits) none = code_same (clip_of m v) in
+        let code = code_of (clip_of m v) in
+        let depth = depth_of (clip_of m v) (here.is_some code) (ix x.vp_scale 2) (ix x.vp_trans 2) in
+        let a = code_same (clip_of m v) in
         let z = screen-same (clip_of m v) x.vp_scale x.vp_trans in
         rw (clip-same, H.zscale, H.ztranslation)
         (record {
           row = ap (λ (t : List ℕ). set t k n) S.row;
           loaded = ap (λ (t : List Bool). set t k true) S.loaded;
           drawn = ap (λ (t : List Bool). set t k false) S.drawn;
-          coded = ap₂ (λ (t : List Bool) (u : Bool). set t k u) S.coded (sym (ap is_some a ∙ some-mark _ _)) ∙ sym (map-set is_some y.clip_codes k (clip_code (clip_of m v)));
-          code = ap₂ (λ (t : List ℕ) (u : ℕ). set t k u) S.code (sym (ap (or_else 0) a ∙ some-value 0 _ _ (no_bits (clip_of m v)))) ∙ sym (map-set (or_else 0) y.clip_codes k (clip_code (clip_of m v)));
-          deep = ap₂ (λ (t : List Bool) (u : Bool). set t k u) S.deep (sym (ap is_some z ∙ some-mark _ _)) ∙ sym (map-set is_some y.screen_z k _);
-          z = ap₂ (λ (t : List Float) (u : Float). set t k u) S.z (sym (ap (or_else math.zero) z ∙ some-value math.zero _ _ (no-depth (clip_of m v) _ _ _))) ∙ sym (map-set (or_else math.zero) y.screen_z k _);
+          coded = ap₂ (λ (t : List Bool) (u : Bool). set t k u) S.coded (sym (ap is_some a ∙ told-mark code)) ∙ sym (map-set is_some y.clip_codes k (clip_code (clip_of m v)));
+          code = ap₂ (λ (t : List ℕ) (u : ℕ). set t k u) S.code (sym (ap (or_else 0) a ∙ told-value 0 code)) ∙ sym (map-set (or_else 0) y.clip_codes k (clip_code (clip_of m v)));
+          deep = ap₂ (λ (t : List Bool) (u : Bool). set t k u) S.deep (sym (ap is_some z ∙ told-mark depth)) ∙ sym (map-set is_some y.screen_z k _);
+          z = ap₂ (λ (t : List Float) (u : Float). set t k u) S.z (sym (ap (or_else math.zero) z ∙ told-value math.zero depth)) ∙ sym (map-set (or_else math.zero) y.screen_z k _);
         })
 
     -- the row

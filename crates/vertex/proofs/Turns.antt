@@ -1,10 +1,6 @@
--- The loops of a load, a turn at a time: what one more vertex does to a column and to the two areas of table 7, and what it needs. Assumes nothing.
-use Prim.Native.Nat.{ℕ, ◌+◌, ◌*◌, ◌≤◌, ◌<◌}
-use native.Mathlib.Nat.{mul-le-mul}
+-- The loops of a load, a turn at a time: what one more vertex does to a column and to the two areas of table 7. Assumes nothing.
+use Prim.Native.Nat.{ℕ, ◌+◌, ◌*◌}
 use native.Mathlib.Numerals.{add-one}
-use native.Mathlib.Omega.{arith}
-use mir.Syntax.{w64}
-use mir.Val.{Fits}
 use mathlib.Core.Bool.{Bool}
 use mathlib.Core.Path.{◌≡◌, refl, sym, ◌∙◌}
 use mathlib.Core.List.{List, [], ◌∷◌, ◌++◌, map, map-append}
@@ -16,7 +12,7 @@ use Rattle.layout.specs.Layout.{vertex_at}
 use Rattle.layout.specs.declared.records.Vertex.{Vertex}
 use Rattle.vertex.specs.declared.Shared.{Shared}
 use Rattle.vertex.specs.Vertices.{vertices_at}
-use Rattle.vertex.specs.Steps.{filled, RowsFit, Laid, Marked}
+use Rattle.vertex.specs.Steps.{filled, Laid, Marked}
 use Rattle.vertex.proofs.Believe.{wide-map, length-vertices, vertices-snoc}
 
 -- ---- a column
@@ -45,27 +41,6 @@ pub rowed : {A : Type 0} (f : Vertex → List A) (w n : ℕ) → ((v : Vertex) �
     → l'' ≡ write w n (map f (vertices_at b at (i + 1))) l
 rowed f w n h b at i l e g =
     g ∙ rw (e, vertices-snoc b at i, ← rows_snoc f w n h (vertices_at b at i) (vertex_at b (at + 16 * i)) l, length-vertices b at i)
-
--- ---- what vertex i of count needs: its slot is there, and the numbers on the way fit
-
-module _ {n first count at : ℕ} {b : List ℕ} {f : List Float} {w : List ℕ} (h : RowsFit n first count at b f w) {i : ℕ} (below : i < count) where
-  pub slot-there : first + i < 256
-  slot-there = omega (arith, h.slots)
-
-  pub row_fits : Fits w64 (n + i)
-  row_fits = record { fits = omega (arith, h.rows) }
-
-  pub slot-fits : Fits w64 (first + i)
-  slot-fits = record { fits = omega (arith, h.slots) }
-
-  -- where the slot stands in a column of k bytes each
-  pub byte_fits : (k : ℕ) → k ≤ 8 → Fits w64 ((first + i) * k)
-  byte_fits k g =
-      let p : first + i ≤ 256 = omega (arith, h.slots) in
-      record { fits = omega (arith, mul-le-mul p g) }
-
-  pub next_fits : Fits w64 (i + 1)
-  next_fits = record { fits = omega (arith, h.slots) }
 
 -- ---- before the first vertex all is as it was
 

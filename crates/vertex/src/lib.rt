@@ -21,7 +21,7 @@ pub const FLOATS: usize = areas::widths::FLOAT_WIDTH as usize;
 pub const WORDS: usize = areas::widths::WORD_WIDTH as usize;
 
 // What every row of a load shares: the numbers of its table entries, light count and texgen mode, fog as the row has it
-// (0, or place + 1), and the viewport's scale and translation for z.
+// (0, or place + 1), and the viewport's scale and translation for z. The combined matrix is in no row, and goes beside it.
 #[derive(Clone, Copy)]
 pub struct Shared {
     pub matrix: u32,
@@ -111,7 +111,9 @@ pub fn lay(
 }
 
 // The rows of a load, `count` of them from row `n` on, and all that the slots from `first` on get. Asks for what is judged once for
-// all rows of a load, as `lay` does. One loop: two would be slower where a load is short.
+// all rows of a load, as `lay` does. One loop: two would be slower where a load is short. It goes by an index, since eight
+// columns, two areas and the bytes go on together. The columns are the state's, lent one by one: a struct of them would be
+// made and taken apart for this one call. The bytes come as a command has them, with the place where the first vertex lies.
 pub fn fill(
     floats: &mut [f32],
     words: &mut [u32],

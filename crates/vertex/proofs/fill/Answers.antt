@@ -17,12 +17,6 @@ use Rattle.vertex.proofs.fill.Goals as goal
 pub loop-i-init : goal.loop-i-init
 loop-i-init c = (omega arith, laid_none _ _ _ _ _ _ _ _ _ _ _ _, marked-none _ _ _ _ _ _, refl, refl)
 
-pub lay-s-requires : goal.lay-s-requires
-lay-s-requires c =
-    let g = c.requires in
-    let h = c.loop-i.invariant in
-    (omega (arith, g.floats, h.3), omega (arith, g.words, h.4), omega (arith, g.bytes))
-
 pub loop-i-preserved : goal.loop-i-preserved
 loop-i-preserved c =
     let l = c.loop-i in
