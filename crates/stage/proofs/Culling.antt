@@ -7,6 +7,7 @@ use lib.Bits.{bit_and}
 use lib.Dec.{eqb, leb, ltb}
 use lib.ListN.{get_or}
 use borrow.Author.Tests.{ltb-true}
+use Rattle.std.specs.Int.{from_bool}
 use Rattle.triangle.specs.Slot.{bit}
 use Rattle.reason.proofs.Walking.{slots_next, slots-none}
 use Rattle.stage.specs.declared.State.{State}
@@ -14,6 +15,11 @@ use Rattle.stage.specs.declared.Answer.{Answer}
 use Rattle.stage.specs.declared.Answer.TheVariants.{Told, NotLoaded, NoCode}
 use Rattle.stage.specs.Plan.{Plan, refuse, does, unless, pick, untouched, nothing, outcome, carry}
 use Rattle.stage.specs.Draw.{slots_to, judge_codes, codes_of, anded, culled}
+
+-- a test's answer as a number
+pub bit_from : (b : Bool) → from_bool b ≡ bit b
+bit_from true = refl
+bit_from false = refl
 
 -- a test hands back the state as given, and tells its value
 pub told : (s : State) (v w : ℕ) → v ≡ w → outcome (record { state = s; answer = Told v }) tt ≡ carry nothing (does (w ∷ []) s untouched) s tt

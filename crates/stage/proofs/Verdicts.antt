@@ -18,17 +18,18 @@ use Rattle.triangle.specs.declared.run.Settings.{Settings}
 use Rattle.triangle.specs.declared.slot.Corner.{Corner}
 use Rattle.triangle.specs.declared.slot.Sides.{Sides}
 use Rattle.triangle.specs.declared.verdict.Tables.{Tables}
-use Rattle.triangle.specs.declared.verdict.Verdict.{Verdict}
-use Rattle.triangle.specs.declared.verdict.Verdict.TheVariants.{Unsound, Nothing, Never, Short, Full, Record}
+use Rattle.triangle.specs.declared.verdict.Record.{Record}
+use Rattle.triangle.specs.declared.verdict.Refusal.{Refusal}
+use Rattle.triangle.specs.declared.verdict.Refusal.TheVariants.{Unsound, Never, Short, Full}
 use Rattle.triangle.specs.Run.{settings, run_of, closed, same_run}
 use Rattle.triangle.specs.Slot.{held, corners, both, culls, swaps}
-use Rattle.triangle.specs.Steps.{six, last_of, sides_of, corner_at, draw_tables, draw_last, draw_areas, draw_slots, draw_judged}
+use Rattle.triangle.specs.Steps.{six, last_of, sides_of, corner, corner_at, grows, loaded, ◌>>=◌, begun, run_for, draw_tables, draw_last, draw_areas, draw_slots, draw_judged}
 use Rattle.triangle.proofs.Lasts.{last-closes, last-same, run-grows}
 use Rattle.triangle.proofs.Recording.{Grown, Begun, Recorded, recorded, Rooms, rooms}
 use Rattle.triangle.proofs.Slots.{held-read, held_place, held_reads}
-use types.Run.{OneOf, miss}
-use denote.Enum.Declared.{tag_of}
-use Rattle.triangle.specs.contracts.verdict.Verdict.{the_type}
+use Rattle.std.proofs.Common.{Option, None, Some, Result, Ok, Err, IsSome}
+use Rattle.std.specs.Bool.{then_some}
+use Rattle.std.specs.Result.{result_unwrap_or}
 use Rattle.stage.specs.declared.State.{State}
 use Rattle.stage.specs.declared.Counts.{Counts}
 use Rattle.stage.specs.declared.Answer.{Answer}
@@ -36,68 +37,83 @@ use Rattle.stage.specs.Sound.{state_sound}
 use Rattle.stage.specs.Plan.{keep, grow, Plan, refuse, does, unless, pick, more, lent, judge, table, counted, after, untouched, outcome, carry}
 use Rattle.stage.specs.With.{with_drawn, with_counts}
 use Rattle.stage.specs.Draw.{edits89, areas89, row_of, placed, mark, triangle, run_edit, draw_plan}
-use Rattle.stage.specs.Steps.{draw_answer}
+use Rattle.stage.specs.declared.draw.Corners.{Corners}
+use Rattle.stage.specs.Steps.{draw_answer, corners_at}
 
 -- ---- the plan by the verdict
 
--- the plan that a verdict stands for; k is what is planned where a triangle is recorded
-abbrev pub by_verdict : State → Plan → Verdict → Plan
-by_verdict s k Unsound = refuse 10 []
-by_verdict s k Nothing = does [] s untouched
-by_verdict s k (Never i) = refuse 6 (i ∷ [])
-by_verdict s k (Short i) = refuse 8 (i ∷ [])
-by_verdict s k (Full i) = refuse 9 (i ∷ [])
-by_verdict s k (Record more start count) = k
+-- the plan that a refusal stands for
+abbrev pub by_refusal : Refusal → Plan
+by_refusal Unsound = refuse 10 []
+by_refusal (Never i) = refuse 6 (i ∷ [])
+by_refusal (Short i) = refuse 8 (i ∷ [])
+by_refusal (Full i) = refuse 9 (i ∷ [])
 
-module _ (s : State) (k : Plan) where
-  -- a test of the plan and the same test of the judge
-  step : (b d : Bool) (v rest : Verdict) (n : ℕ) (vs : List ℕ) (p : Plan) → b ≡ d → by_verdict s k v ≡ refuse n vs → (d ≡ true → p ≡ by_verdict s k rest)
-      → unless b (refuse n vs) p ≡ by_verdict s k (unless d v rest)
-  unfolding unless
-  step b true v rest n vs p e r h = rw e (h refl)
-  step b false v rest n vs p e r h = rw e (sym r)
+-- the plan that a stage of the judge stands for; k is what is planned where a triangle is recorded
+abbrev pub by_stage : Plan → Result Record Refusal → Plan
+by_stage k (Ok r) = k
+by_stage k (Err e) = by_refusal e
 
-  -- both sides culled
-  exit : (b : Bool) (rest : Verdict) (p : Plan) → p ≡ by_verdict s k rest → pick b (does [] s untouched) p ≡ by_verdict s k (pick b Nothing rest)
-  unfolding pick
-  exit true rest p h = refl
-  exit false rest p h = h
+-- the plan that a verdict stands for
+abbrev pub by_verdict : State → Plan → Result (Option Record) Refusal → Plan
+by_verdict s k (Ok None) = does [] s untouched
+by_verdict s k (Ok (Some r)) = k
+by_verdict s k (Err e) = by_refusal e
 
-  -- a triangle is recorded either way
-  either_way : (b : Bool) (x y z u v w : ℕ) → k ≡ by_verdict s k (pick b (Record x y z) (Record u v w))
-  unfolding pick
-  either_way true x y z u v w = refl
-  either_way false x y z u v w = refl
+-- a test of the plan and the same test of the judge
+step : {A : Type 0} (by : Result A Refusal → Plan) (b d : Bool) (e : Refusal) (rest : Result A Refusal) (n : ℕ) (vs : List ℕ) (p : Plan) → b ≡ d → by (Err e) ≡ refuse n vs → (d ≡ true → p ≡ by rest)
+    → unless b (refuse n vs) p ≡ by (unless d (Err e) rest)
+unfolding unless
+step by b true e rest n vs p q r h = rw q (h refl)
+step by b false e rest n vs p q r h = rw q (sym r)
+
+-- the test of a slot and the row that the judge takes of it
+slot_step : (k : Plan) (i : ℕ) (b : Bool) (x : ℕ) (f : ℕ → Result Record Refusal) (p : Plan) → (b ≡ true → p ≡ by_stage k (f x)) → unless b (refuse 6 (i ∷ [])) p ≡ by_stage k (loaded (corner i b x) >>= f)
+unfolding unless
+slot_step k i true x f p h = h refl
+slot_step k i false x f p h = refl
+
+-- both sides culled
+exit : (s : State) (k : Plan) (b : Bool) (rest : Result Record Refusal) (p : Plan) → p ≡ by_stage k rest
+    → pick b (does [] s untouched) p ≡ by_verdict s k (pick b (Ok None) (rest >>= (λ (r : Record). Ok (Some r))))
+unfolding pick
+exit s k true rest p h = refl
+exit s k false (Ok r) p h = h
+exit s k false (Err e) p h = h
 
 -- what table 9 needs: nothing where the last run grows
-run_room : (g : Bool) (us : List (List ℕ)) (n w r : ℕ) (q : List ℕ) → same_run 0 us q ≡ g → leb (w + 0) r ≡ true → leb (w + more (run_edit us n q)) r ≡ g || leb (w + 1) r
-unfolding run_edit pick
-run_room true us n w r q e h = rw e h
-run_room false us n w r q e h = rw e
+run_step : (k : Plan) (t : Tables) (last : Option Last) (us : List (List ℕ)) (n : ℕ) (q : List ℕ) → same_run 0 us q ≡ grows last → leb (t.runs + 0) (room run_width t.runlen) ≡ true
+    → unless (leb (t.runs + more (run_edit us n q)) (room run_width t.runlen)) (refuse 9 (9 ∷ [])) k ≡ by_stage k (run_for t last)
+unfolding run_edit pick unless
+run_step k t None us n q e h = rw e (step (by_stage k) _ _ (Full 9) _ _ _ _ refl refl (λ _. refl))
+run_step k t (Some l) us n q e h = go l.same e
+  where
+    go : (b : Bool) → same_run 0 us q ≡ b → unless (leb (t.runs + more (run_edit us n q)) (room run_width t.runlen)) (refuse 9 (9 ∷ [])) k ≡ by_stage k (pick b (Ok (record { more = 0; start = l.start; count = l.count + 3 })) (begun t))
+    go true e = rw (e, h)
+    go false e = rw e (step (by_stage k) _ _ (Full 9) _ _ _ _ refl refl (λ _. refl))
 
 -- the judge's tests are those of the plan, stage by stage. n indices and w runs are in use, k is planned where a triangle is recorded, and q
 -- are its settings
-module _ (s : State) (k : Plan) (l m : List ℕ) (n w rows : ℕ) (q : List ℕ) (long : length q ≡ settings_wide) where
+module _ (k : Plan) (l m : List ℕ) (n w rows : ℕ) (q : List ℕ) (long : length q ≡ settings_wide) where
   room-plan : (es : List (List ℕ)) → length es ≡ 3 → w ≤ room run_width (length m)
       → unless (closed 0 (entries run_width w m) (length (entries index_width n l))) (refuse 10 [])
       (judge 9 (lent 8 (table index_width n l) (grow es) ∷ lent 9 (table run_width w m) (run_edit (entries run_width w m) (length (entries index_width n l)) q) ∷ []) k)
-      ≡ by_verdict s k (draw_last (draw_tables rows n w (length l) (length m)) (last_of w m q))
+      ≡ by_stage k (draw_last (draw_tables rows n w (length l) (length m)) (last_of w m q))
   unfolding draw_last
   room-plan es three r =
-      step s k _ _ _ _ _ _ _ (rw (length-entries index_width n l) (sym (last-closes w m q n r))) refl
-      (λ _. step s k _ _ _ _ _ _ _ (rw (length-entries index_width n l, three)) refl
-      (λ _. step s k _ _ _ _ _ _ _ (rw (length-entries run_width w m) (run_room _ (entries run_width w m) (length (entries index_width n l)) w (room run_width (length m)) q (sym (last-same w m q long r)) (le-leb (w + 0) (room run_width (length m)) (omega arith)))) refl
-      (λ _. either_way s k ((last_of w m q).used && (last_of w m q).same) 0 (last_of w m q).start ((last_of w m q).count + 3) 1 n 3)))
+      step (by_stage k) _ _ _ _ _ _ _ (rw (length-entries index_width n l) (sym (last-closes w m q n r))) refl
+      (λ _. step (by_stage k) _ _ _ _ _ _ _ (rw (length-entries index_width n l, three)) refl
+      (λ _. rw (length-entries run_width w m) (run_step k (draw_tables rows n w (length l) (length m)) (last_of w m q) (entries run_width w m) (length (entries index_width n l)) q (sym (last-same w m q long r)) (le-leb (w + 0) (room run_width (length m)) (omega arith)))))
 
   areas-plan : (es : List (List ℕ)) → length es ≡ 3
       → judge 8 (lent 8 (table index_width n l) keep ∷ lent 9 (table run_width w m) keep ∷ [])
       (unless (closed 0 (entries run_width w m) (length (entries index_width n l))) (refuse 10 [])
       (judge 9 (lent 8 (table index_width n l) (grow es) ∷ lent 9 (table run_width w m) (run_edit (entries run_width w m) (length (entries index_width n l)) q) ∷ []) k))
-      ≡ by_verdict s k (draw_areas (draw_tables rows n w (length l) (length m)) (last_of w m q))
+      ≡ by_stage k (draw_areas (draw_tables rows n w (length l) (length m)) (last_of w m q))
   unfolding draw_areas
   areas-plan es three =
-      step s k _ _ _ _ _ _ _ (rw (length-entries index_width n l)) refl
-      (λ _. step s k _ _ _ _ _ _ _ (rw (length-entries run_width w m)) refl
+      step (by_stage k) _ _ _ _ _ _ _ (rw (length-entries index_width n l)) refl
+      (λ _. step (by_stage k) _ _ _ _ _ _ _ (rw (length-entries run_width w m)) refl
       (λ h. let r : w + 0 ≤ room run_width (length m) = leb-true (w + 0) (room run_width (length m)) h in room-plan es three (omega arith)))
 
 -- the rows as the code reads them are those of the slots, where the slots are known
@@ -119,12 +135,12 @@ module _ (f : Family) (slots : ℕ) (s : State) (l m : List ℕ) (a b c : ℕ) (
       (edits89 (grow (triangle f s a b c)) (run_edit (entries run_width s.counts.runs m) (length (entries index_width s.counts.indices l)) asks))
 
   -- the verdict
-  unfoldable pub verdict : Verdict
+  unfoldable pub verdict : Result (Option Record) Refusal
   verdict =
       draw_judged (state_sound s) (both f s.geometry)
-      (record { slot = a; known = held slots s.ever a; row = x })
-      (record { slot = b; known = held slots s.ever b; row = y })
-      (record { slot = c; known = held slots s.ever c; row = z })
+      (corner a (held slots s.ever a) x)
+      (corner b (held slots s.ever b) y)
+      (corner c (held slots s.ever c) z)
       (draw_tables s.counts.rows s.counts.indices s.counts.runs (length l) (length m))
       (last_of s.counts.runs m asks)
 
@@ -135,16 +151,16 @@ module _ (f : Family) (slots : ℕ) (s : State) (l m : List ℕ) (a b c : ℕ) (
       → draw_plan f slots s (table index_width s.counts.indices l) (table run_width s.counts.runs m) a b c asked ≡ by_verdict s recording verdict
   unfolding draw_plan verdict draw_judged draw_slots
   plan-is long rx ry rz =
-      step s recording _ _ _ _ _ _ _ refl refl
+      step (by_verdict s recording) _ _ _ _ _ _ _ refl refl
       (λ _. exit s recording _ _ _
-      (step s recording _ _ _ _ _ _ _ refl refl
-      (λ ha. step s recording _ _ _ _ _ _ _ refl refl
-      (λ hb. step s recording _ _ _ _ _ _ _ refl refl
-      (λ hc. step s recording _ _ _ _ _ _ _ (placed-is s a b c x y z (rx ha) (ry hb) (rz hc)) refl
-      (λ _. areas-plan s recording l m s.counts.indices s.counts.runs s.counts.rows asks long (triangle f s a b c) refl))))))
+      (slot_step recording a _ x _ _
+      (λ ha. slot_step recording b _ y _ _
+      (λ hb. slot_step recording c _ z _ _
+      (λ hc. step (by_stage recording) _ _ _ _ _ _ _ (placed-is s a b c x y z (rx ha) (ry hb) (rz hc)) refl
+      (λ _. areas-plan recording l m s.counts.indices s.counts.runs s.counts.rows asks long (triangle f s a b c) refl))))))
 
   -- the verdict as the code finds it, from what it reads at each slot's number modulo the number of slots
-  pub verdict-is : (sd : Sides) (p q r : Corner) (t : Tables) (set : Settings) (d : Last) (ok : Bool) (v : Verdict)
+  pub verdict-is : (sd : Sides) (p q r : Corner) (t : Tables) (set : Settings) (d : Option Last) (ok : Bool) (v : Result (Option Record) Refusal)
       → sd ≡ sides_of f s.geometry
       → p ≡ corner_at slots a (get_or s.ever (a % slots) false) x
       → q ≡ corner_at slots b (get_or s.ever (b % slots) false) y
@@ -163,29 +179,47 @@ module _ (f : Family) (slots : ℕ) (s : State) (l m : List ℕ) (a b c : ℕ) (
   abbrev pub Passed : ℕ → ℕ → ℕ → Type 0
   Passed more start count =
       Recorded
-      (record { slot = a; known = held slots s.ever a; row = x })
-      (record { slot = b; known = held slots s.ever b; row = y })
-      (record { slot = c; known = held slots s.ever c; row = z })
+      (corner a (held slots s.ever a) x)
+      (corner b (held slots s.ever b) y)
+      (corner c (held slots s.ever c) z)
       (draw_tables s.counts.rows s.counts.indices s.counts.runs (length l) (length m))
       (last_of s.counts.runs m asks)
       more start count
 
-  pub passes : (v : Verdict) (more start count : ℕ) → v ≡ verdict → v ≡ Record more start count → Passed more start count
+  pub passes : (v : Result (Option Record) Refusal) (r : Record) → v ≡ verdict → v ≡ Ok (Some r) → Passed r.more r.start r.count
   unfolding verdict
-  passes v more start count e h = recorded _ _ _ _ _ _ _ _ _ _ (sym e ∙ h)
+  passes v r e h = recorded _ _ _ _ _ _ _ _ (sym e ∙ h)
 
 -- ---- what a draw comes to
 
--- a draw that records nothing hands back the state and the areas as given: its verdict is one of the first five
-pub unrecorded : (s : State) (k : Plan) (l : List ℕ × List ℕ) (v : Verdict) → OneOf (0 ∷ 1 ∷ 2 ∷ 3 ∷ 4 ∷ []) (tag_of the_type v)
+-- a draw that records nothing hands back the state and the areas as given
+pub unrecorded : (s : State) (k : Plan) (l : List ℕ × List ℕ) (v : Result (Option Record) Refusal) → ((r : Record) → v ≡ Ok (Some r) → ⊥)
     → outcome (record { state = s; answer = draw_answer v }) l ≡ carry areas89 (by_verdict s k v) s l
 unfolding carry
-unrecorded s k l Unsound o = refl
-unrecorded s k l Nothing o = refl
-unrecorded s k l (Never i) o = refl
-unrecorded s k l (Short i) o = refl
-unrecorded s k l (Full i) o = refl
-unrecorded s k l (Record x y z) o = absurd (miss (0 ∷ 1 ∷ 2 ∷ 3 ∷ 4 ∷ []) 5 tt o)
+unrecorded s k l (Ok None) o = refl
+unrecorded s k l (Ok (Some r)) o = absurd (o r refl)
+unrecorded s k l (Err Unsound) o = refl
+unrecorded s k l (Err (Never i)) o = refl
+unrecorded s k l (Err (Short i)) o = refl
+unrecorded s k l (Err (Full i)) o = refl
+
+-- the record of a verdict, if it has one
+pub recording-is : (v : Result (Option Record) Refusal) (r : Record) → result_unwrap_or v None ≡ Some r → v ≡ Ok (Some r)
+recording-is (Ok None) r e = absurd (cc)
+recording-is (Ok (Some x)) r e = cc
+recording-is (Err x) r e = absurd (cc)
+
+pub none-recorded : (v : Result (Option Record) Refusal) → result_unwrap_or v None ≡ None → (r : Record) → v ≡ Ok (Some r) → ⊥
+none-recorded v e r h = let k : ◌≡◌ {A = Option Record} (Some r) None = rw h at e in cc
+
+-- a row that is there only where the mark is
+marked : (b : Bool) (x : ℕ) → IsSome (then_some b x) → b ≡ true
+marked true x e = refl
+marked false x e = absurd (cc)
+
+pub row-read : (b : Bool) (x y : ℕ) → then_some b x ≡ Some y → y ≡ x
+row-read true x y e = cc
+row-read false x y e = absurd (cc)
 
 -- what the runs get: their count, and the run that the code writes
 run-effect : (w n x y z : ℕ) (m q : List ℕ) (t : Tables) → length q ≡ settings_wide → w ≤ room run_width (length m) → t.indices ≡ n
@@ -195,9 +229,9 @@ unfolding run_edit pick
 run-effect w n x y z m q t long r at how =
     ⊎_elim
     (λ g.
-    let same : same_run 0 (entries run_width w m) q ≡ true = sym (last-same w m q long r) ∙ g.grows in
+    let same : same_run 0 (entries run_width w m) q ≡ true = sym (last-same w m q long r) ∙ rw g.is g.same in
     let p : w - 1 ≡ w + 0 - 1 = omega arith in
-    (rw (same, g.none) (sym (add-zero w)), rw (same, g.none, g.begins, g.counts, ← p) (run-grows w m q long r g.grows)))
+    (rw (same, g.none) (sym (add-zero w)), rw (same, g.none, g.begins, g.counts, ← p) (run-grows w m q g.run long r g.is g.same)))
     (λ g.
     let same : same_run 0 (entries run_width w m) q ≡ false = sym (last-same w m q long r) ∙ g.other in
     let p : w ≡ w + 1 - 1 = omega arith in
@@ -233,7 +267,7 @@ module _ (f : Family) (slots : ℕ) (s : State) (l m : List ℕ) (a b c : ℕ) (
   read i = get_or s.row (i % slots) 0
 
   -- the verdict, from what the code reads
-  abbrev pub judgement : Verdict
+  abbrev pub judgement : Result (Option Record) Refusal
   judgement = verdict f slots s l m a b c asked (read a) (read b) (read c)
 
   -- what is planned, and what it is by the verdict
@@ -250,14 +284,20 @@ module _ (f : Family) (slots : ℕ) (s : State) (l m : List ℕ) (a b c : ℕ) (
   plan = plan-is f slots s l m a b c asked (read a) (read b) (read c) long (reads a) (reads b) (reads c)
 
   -- WHERE NOTHING IS RECORDED, the state and the areas are as given, and the answer is the verdict's
-  pub draws-nothing : (t : State) (i r : List ℕ) (u v : Verdict) (an : Answer) → v ≡ judgement → OneOf (0 ∷ 1 ∷ 2 ∷ 3 ∷ 4 ∷ []) (tag_of the_type v)
+  pub draws-nothing : (t : State) (i r : List ℕ) (u v : Result (Option Record) Refusal) (an : Answer) → v ≡ judgement → ((r : Record) → v ≡ Ok (Some r) → ⊥)
       → t ≡ s → i ≡ l → r ≡ m → u ≡ v → an ≡ draw_answer u
       → outcome (record { state = t; answer = an }) (i, r) ≡ carry areas89 planned s (l, m)
   draws-nothing t i r u v an ev o et ei er eu ea = rw (et, ei, er, ea, eu, plan, ← ev) (unrecorded s _ (l, m) v o)
 
   -- a triangle is recorded only where it has room
-  pub has_room : (x y z : ℕ) (v : Verdict) → v ≡ judgement → v ≡ Record x y z → Rooms s.counts.indices s.counts.runs x (length l) (length m)
-  has_room x y z v ev er = rooms _ _ _ _ _ _ _ _ _ _ _ _ (passes f slots s l m a b c asked (read a) (read b) (read c) v x y z ev er)
+  pub has_room : (r : Record) (v : Result (Option Record) Refusal) → v ≡ judgement → v ≡ Ok (Some r) → Rooms s.counts.indices s.counts.runs r.more (length l) (length m)
+  has_room r v ev er = rooms _ _ _ _ _ _ _ _ _ _ _ _ (passes f slots s l m a b c asked (read a) (read b) (read c) v r ev er)
+
+  -- and only of slots that have rows
+  pub has_rows : (r : Record) (v : Result (Option Record) Refusal) → v ≡ judgement → v ≡ Ok (Some r) → (k : Corners) → k ≡ corners_at slots s.row s.ever a b c → IsSome k.p.row × IsSome k.q.row × IsSome k.s.row
+  has_rows r v ev er k ek =
+      let h = passes f slots s l m a b c asked (read a) (read b) (read c) v r ev er in
+      rw (ek, held-read slots s.ever a, held-read slots s.ever b, held-read slots s.ever c) (h.first, h.second, h.third)
 
   -- the rows that the code writes are the entries that table run_width gets
   index-effect : held slots s.ever a ≡ true → held slots s.ever b ≡ true → held slots s.ever c ≡ true → (n : ℕ)
@@ -266,29 +306,32 @@ module _ (f : Family) (slots : ℕ) (s : State) (l m : List ℕ) (a b c : ℕ) (
   index-effect ha hb hc n = rw (reads a ha, reads b hb, reads c hc, mul-one n)
 
   -- WHERE A TRIANGLE IS RECORDED, the three slots are drawn, and the areas and counts are those planned
-  pub draws : (x y z : ℕ) (v : Verdict) → v ≡ judgement → v ≡ Record x y z
-      → (t : State) → t ≡ with_counts (with_drawn s (set (set (set s.drawn (a % slots) true) (b % slots) true) (c % slots) true)) (longer_by x s.counts)
+  pub draws : (r : Record) (v : Result (Option Record) Refusal) → v ≡ judgement → v ≡ Ok (Some r)
+      → (t : State) → t ≡ with_counts (with_drawn s (set (set (set s.drawn (a % slots) true) (b % slots) true) (c % slots) true)) (longer_by r.more s.counts)
       → (i : List ℕ) → i ≡ put l s.counts.indices (corners (swaps f s.geometry) (read a) (read b) (read c))
-      → (g : List ℕ) → g ≡ put m ((s.counts.runs + x - 1) * run_width) (run_of (settings asked (culls f s.geometry) s.microcode) y z)
-      → (u : Verdict) → u ≡ Record x y z → (an : Answer) → an ≡ draw_answer u
+      → (g : List ℕ) → g ≡ put m ((s.counts.runs + r.more - 1) * run_width) (run_of (settings asked (culls f s.geometry) s.microcode) r.start r.count)
+      → (u : Result (Option Record) Refusal) → u ≡ Ok (Some r) → (an : Answer) → an ≡ draw_answer u
       → outcome (record { state = t; answer = an }) (i, g) ≡ carry areas89 planned s (l, m)
   unfolding carry
-  draws x y z v ev er t et i ei g eg u eu an ea =
-      let h = passes f slots s l m a b c asked (read a) (read b) (read c) v x y z ev er in
-      let e = run-effect s.counts.runs s.counts.indices x y z m _ _ long h.runs refl h.how in
+  draws r v ev er t et i ei g eg u eu an ea =
+      let h = passes f slots s l m a b c asked (read a) (read b) (read c) v r ev er in
+      let ha = marked _ _ h.first in
+      let hb = marked _ _ h.second in
+      let hc = marked _ _ h.third in
+      let e = run-effect s.counts.runs s.counts.indices r.more r.start r.count m _ _ long h.runs refl h.how in
       rw (
         et,
         ei,
-        index-effect h.first h.second h.third s.counts.indices,
+        index-effect ha hb hc s.counts.indices,
         eg,
         ea,
         eu,
         plan,
         ← ev,
         er,
-        held_place slots s.ever a h.first,
-        held_place slots s.ever b h.second,
-        held_place slots s.ever c h.third,
+        held_place slots s.ever a ha,
+        held_place slots s.ever b hb,
+        held_place slots s.ever c hc,
         length-entries index_width s.counts.indices l,
         e.0,
         e.1,

@@ -12,7 +12,7 @@ use crate::{Answer, Answered, State};
 use areas::widths::RUN_WIDTH;
 use reason::Reason;
 use triangle::slot::Corner;
-use triangle::verdict::Verdict;
+use triangle::verdict::{Record, Refusal, Tables};
 use triangle::{run, slot, verdict};
 
 // The refusal of a slot that is not loaded, or has no clip code.
@@ -39,16 +39,15 @@ fn answer_for(r: Reason) -> Answer
 }
 
 // The answer of a draw.
-fn answer_of(v: Verdict) -> Answer
+fn answer_of(v: Result<Option<Record>, Refusal>) -> Answer
     ensures { result ≡ draw_answer v }
 {
     match v {
-        Verdict::Unsound => Answer::BadState,
-        Verdict::Nothing => Answer::Done,
-        Verdict::Never(slot) => Answer::NeverLoaded(slot),
-        Verdict::Short(table) => Answer::ShortArea(table),
-        Verdict::Full(table) => Answer::NoRoom(table),
-        Verdict::Record(more, start, count) => Answer::Done,
+        Ok(_) => Answer::Done,
+        Err(Refusal::Unsound) => Answer::BadState,
+        Err(Refusal::Never(slot)) => Answer::NeverLoaded(slot),
+        Err(Refusal::Short(table)) => Answer::ShortArea(table),
+        Err(Refusal::Full(table)) => Answer::NoRoom(table),
     }
 }
 
@@ -95,26 +94,23 @@ impl State {
         let coded = self.coded;
         let code = self.code;
         let mut common: u8 = 0x0f;
-        let mut i = first;
-        while i <= last {
+        for i in first..=last {
             let k = i as usize;
             if !(loaded[k] & coded[k]) {
                 return uncoded(loaded[k], i);
             }
-            common = common & code[k];
-            i = i + 1;
+            common &= code[k];
         }
-        Answer::Told(slot::word_of(common != 0))
+        Answer::Told(u32::from(common != 0))
     }
 
     // Cull test (13): 1 where the slots first to last all lie outside one of the four side planes, else 0.
     pub fn cull_display_list(mut self, first: u32, last: u32) -> Answered
         ensures { outcome result tt ≡ carry nothing (cull_plan (limit self) self first last) self tt }
     {
-        let answer = self.culled(first, last);
         Answered {
             state: self,
-            answer: answer,
+            answer: self.culled(first, last),
         }
     }
 
@@ -135,10 +131,9 @@ impl State {
     pub fn explain_cull(mut self, first: u32, last: u32) -> Answered
         ensures { outcome result tt ≡ carry nothing (explain_plan (limit self) self first last) self tt }
     {
-        let answer = self.explained(first, last);
         Answered {
             state: self,
-            answer: answer,
+            answer: self.explained(first, last),
         }
     }
 
@@ -160,17 +155,16 @@ impl State {
             return Answer::NoCode(slot);
         }
         let most = numbers::ratio::wide_by_65536(threshold);
-        Answer::Told(slot::word_of(z[i] <= most))
+        Answer::Told(u32::from(z[i] <= most))
     }
 
     // Depth test (13): 1 where the slot's screen z is at most the threshold over 65536, else 0.
     pub fn branch_z(mut self, slot: u32, threshold: u32) -> Answered
         ensures { outcome result tt ≡ carry nothing (depth_plan (limit self) self slot threshold) self tt }
     {
-        let answer = self.near(slot, threshold);
         Answered {
             state: self,
-            answer: answer,
+            answer: self.near(slot, threshold),
         }
     }
 
@@ -194,33 +188,37 @@ impl State {
         let row = self.row;
         let ever = self.ever;
         let mut drawn = self.drawn;
-        let at = corners_at(&row, &ever, a, b, c);
-        let p = at.p;
-        let q = at.q;
-        let s = at.s;
+        let Corners { p, q, s } = corners_at(&row, &ever, a, b, c);
         let n = self.counts.indices;
         let m = self.counts.runs;
-        let t = verdict::tables_of(self.counts.rows, n, m, indices.len(), runs.len());
+        let t = Tables {
+            rows: self.counts.rows,
+            indices: n,
+            runs: m,
+            indexlen: indices.len(),
+            runlen: runs.len(),
+        };
         let sides = slot::sides_of(family, self.geometry);
         let asked = [material, render_mode, fog_colour, prim_depth];
         let set = run::settings_of(asked, sides.cull, self.microcode);
         let last = run::last_run(runs, m, set);
         let v = verdict::judge(self.sound(), sides.both, p, q, s, t, last);
-        if let Verdict::Record(more, start, count) = v {
+        if let Some(record) = v.unwrap_or(None) {
             drawn[(a % 256) as usize] = true;
             drawn[(b % 256) as usize] = true;
             drawn[(c % 256) as usize] = true;
-            slot::put_corners(indices, n as usize, sides.swap, p.row, q.row, s.row);
+            // A triangle is recorded only where each corner has a row.
+            let (x, y, z) = (p.row.unwrap(), q.row.unwrap(), s.row.unwrap());
+            slot::put_corners(indices, n as usize, sides.swap, x, y, z);
+            let recorded = m + record.more;
             run::put_run(
                 runs,
-                areas::place(RUN_WIDTH, m + more - 1),
+                areas::place(RUN_WIDTH, recorded - 1),
                 set,
-                start,
-                count,
+                record.start,
+                record.count,
             );
-            let indexed = n + 3;
-            let recorded = m + more;
-            self.counts.indices = indexed;
+            self.counts.indices = n + 3;
             self.counts.runs = recorded;
         }
         self.drawn = drawn;

@@ -1,13 +1,15 @@
-use mathlib.Core.Path.{refl}
+use native.Mathlib.Omega.{arith}
+use mathlib.Core.Path.{refl, ◌∙◌}
 use Rattle.std.proofs.Common.{not}
 use Rattle.std.proofs.Common.{ap}
 use borrow.Author.Tests.{not-true, not-false}
 use Rattle.stage.proofs.Cascade.{fails, holds, refused, passed}
-use Rattle.stage.proofs.Culling.{rest, few, walk_more, walk-stops, walk_ends}
+use Rattle.stage.proofs.Culling.{bit_from, rest, few, walk_more, walk-stops, walk_ends}
 use Rattle.stage.specs.declared.Answer.TheVariants.{BadState, BadCull}
 use Rattle.stage.specs.Plan.{nothing}
 use Rattle.stage.specs.Draw.{cull_plan}
 use Rattle.stage.proofs.State.culled.Goals as goal
+use Rattle.stage.proofs.State.culled.Goals.{else-loop-i-test, then-loop-i-test+else-not-loaded-k+else-i-last}
 
 pub returns-then-not-sound : goal.returns-then-not-sound
 unfolding cull_plan
@@ -40,4 +42,9 @@ unfolding cull_plan rest
 returns c =
     passed nothing _ _ _ _ _ _ _ (holds c.sound.ensures (ap not c.if-not-sound.false))
     (passed nothing _ _ _ _ _ _ _ (not-false _ (ap not c.if-not-first-last.false))
-    (walk_ends _ _ _ _ _ (c.loop-i.invariant.1 c.args.self refl refl refl) c.loop-i-test.false _ c.word_of.ensures))
+    (elim c.loop-i-test.branch [
+      | else-loop-i-test w ↦ walk_ends _ _ _ _ _ (c.loop-i.invariant.1 c.args.self refl refl refl) w.loop-i-test.false _ (c.from.ensures ∙ bit_from _ ∙ rw w.common-is)
+      | then-loop-i-test+else-not-loaded-k+else-i-last w ↦ walk_ends _ _ _ _ _
+          (walk_more _ _ _ _ _ (c.loop-i.invariant.1 c.args.self refl refl refl) w.loop-i-test.true (not-false _ (ap not w.if-not-loaded-k.false)))
+          (omega arith) _ (c.from.ensures ∙ bit_from _ ∙ rw w.common-is)
+    ]))

@@ -2,7 +2,7 @@ use Rattle.triangle.specs.Slot.{bit}
 use Rattle.std.proofs.Common.{not}
 use Rattle.std.proofs.Common.{ap}
 use mathlib.Core.Path.{◌∙◌}
-use Rattle.stage.proofs.Culling.{told}
+use Rattle.stage.proofs.Culling.{told, bit_from}
 use mathlib.Core.Bool.{false}
 use lib.Ieee.{nan}
 use Rattle.stage.proofs.Cascade.{fails, holds, refused, passed}
@@ -40,4 +40,4 @@ returns c =
     passed nothing _ _ _ _ _ _ _ (holds c.sound.ensures (ap not c.if-not-sound.false))
     (passed nothing _ _ _ _ _ _ _ h
     (passed nothing _ _ _ _ _ _ _ (holds (held_reads 256 a.self.loaded a.slot a.self.deep false h) (ap not c.if-not-deep-i.false))
-    (told a.self _ (bit (near a.self a.slot a.threshold)) (c.word_of.ensures ∙ rw (c.wide_by_65536-most.ensures, held_reads 256 a.self.loaded a.slot a.self.z nan h)))))
+    (told a.self _ (bit (near a.self a.slot a.threshold)) (c.from.ensures ∙ bit_from _ ∙ rw (c.wide_by_65536-most.ensures, held_reads 256 a.self.loaded a.slot a.self.z nan h)))))
