@@ -126,15 +126,12 @@ fn number_of(a: Answer) -> u32
     ensures { result ≡ number a }
 {
     match a {
-        Answer::Done => 0,
-        Answer::Told(_) => 0,
-        Answer::AllOutside(_) => 0,
-        Answer::FirstInside(_, _, _, _) => 0,
-        Answer::BadLoad(_, _) => 1,
-        Answer::BadCull(_, _) => 2,
+        Answer::Done | Answer::Told(_) | Answer::AllOutside(_) | Answer::FirstInside(..) => 0,
+        Answer::BadLoad(..) => 1,
+        Answer::BadCull(..) => 2,
         Answer::NotLoaded(_) => 3,
         Answer::NoCode(_) => 4,
-        Answer::BadModify(_, _) => 5,
+        Answer::BadModify(..) => 5,
         Answer::NeverLoaded(_) => 6,
         Answer::ShortData(_) => 7,
         Answer::ShortArea(_) => 8,
