@@ -1,9 +1,9 @@
--- The bits of a NaN. Assumes nothing.
+-- A NaN has the bits of the one NaN. Assumes nothing.
 use Rattle.std.proofs.Common.{◌≡◌, refl, true}
-use lib.Ieee.{Float, nan, inf, fin, binary32, is_nan, to_bits}
+use lib.Ieee.{Float, Format, nan, inf, fin, is_nan, to_bits}
 
-pub nan-bits : (x : Float) → true ≡ is_nan x → 2143289344 ≡ to_bits binary32 x
-unfolding to_bits is_nan
-nan-bits nan e = refl
-nan-bits (inf s) e = cc
-nan-bits (fin s m k) e = cc
+pub nan-bits : (f : Format) (x : Float) → true ≡ is_nan x → to_bits f nan ≡ to_bits f x
+unfolding is_nan
+nan-bits f nan e = refl
+nan-bits f (inf s) e = cc
+nan-bits f (fin s m k) e = cc

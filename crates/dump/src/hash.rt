@@ -12,7 +12,7 @@ fn rolled(hash: u32, w: u32) -> u32
     ((h * 65599 + (w as u64)) % 4294967291) as u32
 }
 
-pub(crate) fn of<T: Word>(xs: &[T]) -> u32
+pub(crate) fn of<T: Word<Bits = u32>>(xs: &[T]) -> u32
     ensures { result ≡ roll T.word 0 xs.now }
 {
     xs.iter().fold(0, |h, x| rolled(h, x.word()))

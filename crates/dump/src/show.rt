@@ -1,6 +1,6 @@
 // Writes to `out`, which is standard output, and complaints to `err`, standard error.
-ghost use Rattle.std.specs.Prelude.{◌≡◌, ℕ};
-ghost use Rattle.std.specs.Float.{binary32};
+ghost use Rattle.std.specs.Prelude.{◌≡◌};
+ghost use Rattle.std.specs.Float.{binary32, binary64};
 ghost use Rattle.std.specs.Float.Ieee.{to_bits};
 ghost use Rattle.std.proofs.Common.{of_z};
 ghost use Rattle.std.specs.Int.{w16};
@@ -13,6 +13,64 @@ use trace::ops;
 
 pub fn text(out: &impl Print, s: &[u8]) -> io::Result<()> {
     out.write_all(s)
+}
+
+// A number by its bits: those of one NaN for any NaN.
+pub(crate) trait Word: Copy {
+    type Bits;
+
+    ghost word: { Self → Self.Bits };
+
+    fn word(self) -> Self::Bits
+        ensures { result ≡ word self };
+}
+
+impl Word for u32 {
+    type Bits = u32;
+
+    ghost word = { λ x. x };
+
+    fn word(self) -> u32 {
+        self
+    }
+}
+
+impl Word for i16 {
+    type Bits = u32;
+
+    ghost word = { of_z w16 };
+
+    fn word(self) -> u32 {
+        self.cast_unsigned() as u32
+    }
+}
+
+impl Word for f32 {
+    type Bits = u32;
+
+    ghost word = { to_bits binary32 };
+
+    fn word(self) -> u32 {
+        if self.is_nan() {
+            0x7fc00000
+        } else {
+            self.to_bits()
+        }
+    }
+}
+
+impl Word for f64 {
+    type Bits = u64;
+
+    ghost word = { to_bits binary64 };
+
+    fn word(self) -> u64 {
+        if self.is_nan() {
+            0x7ff8000000000000
+        } else {
+            self.to_bits()
+        }
+    }
 }
 
 // A number as a value in a line, after a space: a float by the digits of its bits, or `nan`, and any other in decimal.
@@ -50,7 +108,7 @@ impl Shown for f32 {
         if self.is_nan() {
             return text(out, b" nan");
         }
-        let bits = self.to_bits();
+        let bits = self.word();
         print!(out; " {bits:08x}")
     }
 }
@@ -60,7 +118,7 @@ impl Shown for f64 {
         if self.is_nan() {
             return text(out, b" nan");
         }
-        let bits = self.to_bits();
+        let bits = self.word();
         print!(out; " {bits:016x}")
     }
 }
@@ -71,44 +129,6 @@ impl<T: Shown> Shown for Option<T> {
         match self {
             Some(x) => x.show(out),
             None => text(out, b" -"),
-        }
-    }
-}
-
-// A number of an area, as the word that its hash takes.
-pub(crate) trait Word: Shown {
-    ghost word: { Self → ℕ };
-
-    fn word(self) -> u32
-        ensures { result ≡ word self };
-}
-
-impl Word for u32 {
-    ghost word = { λ x. x };
-
-    fn word(self) -> u32 {
-        self
-    }
-}
-
-// The 16 bits of a number with a sign.
-impl Word for i16 {
-    ghost word = { of_z w16 };
-
-    fn word(self) -> u32 {
-        self.cast_unsigned() as u32
-    }
-}
-
-// The bits of a float, those of one NaN for any NaN.
-impl Word for f32 {
-    ghost word = { to_bits binary32 };
-
-    fn word(self) -> u32 {
-        if self.is_nan() {
-            0x7fc00000
-        } else {
-            self.to_bits()
         }
     }
 }
@@ -126,15 +146,12 @@ fn number_of(a: Answer) -> u32
     ensures { result ≡ number a }
 {
     match a {
-        Answer::Done => 0,
-        Answer::Told(_) => 0,
-        Answer::AllOutside(_) => 0,
-        Answer::FirstInside(_, _, _, _) => 0,
-        Answer::BadLoad(_, _) => 1,
-        Answer::BadCull(_, _) => 2,
+        Answer::Done | Answer::Told(_) | Answer::AllOutside(_) | Answer::FirstInside(..) => 0,
+        Answer::BadLoad(..) => 1,
+        Answer::BadCull(..) => 2,
         Answer::NotLoaded(_) => 3,
         Answer::NoCode(_) => 4,
-        Answer::BadModify(_, _) => 5,
+        Answer::BadModify(..) => 5,
         Answer::NeverLoaded(_) => 6,
         Answer::ShortData(_) => 7,
         Answer::ShortArea(_) => 8,
