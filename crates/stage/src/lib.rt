@@ -9,7 +9,7 @@ pub mod modify;
 pub mod settings;
 
 // How many entries of each table are in use, tables 1 to 9.
-#[derive(Clone, Copy)]
+#[derive(Clone, Copy, Default)]
 pub struct Counts {
     pub matrices: u32,
     pub viewports: u32,
@@ -23,7 +23,7 @@ pub struct Counts {
 }
 
 // What the texture command stores, as it was given.
-#[derive(Clone, Copy)]
+#[derive(Clone, Copy, Default)]
 pub struct Texture {
     pub tile: u8,
     pub level: u8,

@@ -13,6 +13,26 @@ ghost use Rattle.stage.specs.Steps.{reads, early_in};
 use crate::{Answer, Answered, Counts, Lights, Lookat, State, Texture};
 use areas::widths::{MATRIX_WIDTH, MOST, VIEWPORT_WIDTH};
 
+// No light set, and no lookat axis.
+const NO_LIGHTS: Lights = Lights {
+    number: 0,
+    directions: [0.0; 24],
+    colours: [0.0; 24],
+    ambient: [0.0; 3],
+    changed: false,
+    folded: false,
+    top: [0.0; 16],
+    first: 0,
+};
+
+const NO_LOOKAT: Lookat = Lookat {
+    axes: [0.0; 6],
+    changed: false,
+    folded: false,
+    top: [0.0; 16],
+    place: 0,
+};
+
 // A state with every other number zero, every other mark cleared and every slot empty.
 fn blank_state(mark: bool, used: u32) -> State
     ensures { result ≡ with_counts (blank mark) (record { matrices = used; viewports = used; scales = 0; lights = 0; lookats = 0; fogs = 0; rows = 0; indices = 0; runs = 0 }) }
@@ -29,40 +49,13 @@ fn blank_state(mark: bool, used: u32) -> State
         combined: [0.0; 16],
         defined: false,
         viewport: [0.0; 6],
-        texture: Texture {
-            tile: 0,
-            level: 0,
-            on: false,
-            sc: 0,
-            tc: 0,
-        },
-        lights: Lights {
-            number: 0,
-            directions: [0.0; 24],
-            colours: [0.0; 24],
-            ambient: [0.0; 3],
-            changed: false,
-            folded: false,
-            top: [0.0; 16],
-            first: 0,
-        },
-        lookat: Lookat {
-            axes: [0.0; 6],
-            changed: false,
-            folded: false,
-            top: [0.0; 16],
-            place: 0,
-        },
+        texture: Texture::default(),
+        lights: NO_LIGHTS,
+        lookat: NO_LOOKAT,
         counts: Counts {
             matrices: used,
             viewports: used,
-            scales: 0,
-            lights: 0,
-            lookats: 0,
-            fogs: 0,
-            rows: 0,
-            indices: 0,
-            runs: 0,
+            ..Counts::default()
         },
         unit: 0,
         row: [0; 256],
