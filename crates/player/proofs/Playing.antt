@@ -1,22 +1,21 @@
 -- What is left to play, as the loop goes on: each op takes its part of it, and the end leaves none. Assumes nothing.
-use mathlib.Core.Path.{◌≡◌, refl, sym, ap, ◌∙◌}
+use mathlib.Core.Path.{◌≡◌, refl, ◌∙◌}
 use Prim.Native.Nat.{ℕ, zero, suc, ◌+◌, ◌≤◌, ◌<◌}
 use native.Mathlib.Omega.{arith}
-use mathlib.Core.Bool.{Bool, true, false, ◌&&◌}
 use mathlib.Core.List.{List}
-use lib.ListN.{length, get_or}
-use lib.Dec.{ltb}
+use lib.ListN.{length}
 use borrow.Author.Tests.{lt-ltb, le-ltb}
+use Rattle.std.specs.Prelude.{Ok, Err}
 use Rattle.numbers.specs.Choice.{pick}
 use Rattle.stage.specs.declared.Answered.{Answered}
 use Rattle.stage.specs.Plan.{outcome}
 use Rattle.sequence.specs.Sequence.{Areas, Port}
 use Rattle.trace.specs.declared.rooms.Lengths.{Lengths}
 use Rattle.trace.specs.declared.script.Call.{Call}
+use Rattle.trace.specs.declared.ops.Cut.{Cut}
 use Rattle.trace.specs.Script.{call_at}
 use Rattle.trace.specs.Acts.{length_list, lent_after}
 use Rattle.player.specs.Ops.{step_by}
-use Rattle.trace.specs.Shapes.{shape_of}
 use Rattle.player.specs.Play.{port_of, lengths_in, data_of, play_from}
 
 -- the ops from a place on bring p to q, for as many of them as there are bytes at least
@@ -30,26 +29,22 @@ pub all_left : (s : List ℕ) (at : ℕ) (lent : Lengths) (p : Port) → Left s 
 all_left s at lent p = record { most = length s; enough = omega arith; brings = refl }
 
 module _ (s : List ℕ) (at : ℕ) (lent : Lengths) (p q : Port) where
-  abbrev here : Call
-  here = call_at (shape_of (get_or s at 0)) s at
-
   -- what is left behind the op c, with n ops more at most
   abbrev behind : ℕ → Call → Port
   behind n c = let o = step_by c (data_of s c) lent p in play_from n s c.to (lengths_in (lent_after c (length_list lent))) (port_of o.state o.areas)
 
-  -- an op that is whole is played, and what is behind it is left
-  pub left_behind : (c : Call) (r : Answered) (lent' : Lengths) (l : Areas) → at < length s → c ≡ here → c.whole ≡ true → at < c.to
+  -- an op that is read is played, and what is behind it is left
+  pub left_behind : (c : Call) (r : Answered) (lent' : Lengths) (l : Areas) → at < length s → call_at s at ≡ Ok c → at < c.to
       → outcome r l ≡ step_by c (data_of s c) lent p → length_list lent' ≡ lent_after c (length_list lent) → Left s at lent p q → Left s c.to lent' (port_of r.state l) q
-  unfolding play_from pick call_at
-  left_behind c r lent' l h e w t o n f = go f.most f.enough f.brings
+  unfolding play_from pick
+  left_behind c r lent' l h e t o n f = go f.most f.enough f.brings
     where
       go : (k : ℕ) → length s ≤ k + at → play_from k s at lent p ≡ q → Left s c.to lent' (port_of r.state l) q
       go zero g b = absurd (omega arith)
       go (suc k) g b =
-          let v : here.whole ≡ true = ap (λ (x : Call). x.whole) (sym e) ∙ w in
-          let x : behind k here ≡ q = rw (lt-ltb at (length s) h, v) at b in
+          let x : behind k c ≡ q = rw (lt-ltb at (length s) h, e) at b in
           let y : play_from k s c.to lent' (port_of r.state l) ≡ behind k c = λ i. play_from k s c.to (lengths_in (n i)) (port_of (o i).state (o i).areas) in
-          record { most = k; enough = omega arith; brings = y ∙ ap (behind k) e ∙ x }
+          record { most = k; enough = omega arith; brings = y ∙ x }
 
   -- where the script ends nothing is left to do
   pub ended : length s ≤ at → Left s at lent p q → p ≡ q
@@ -60,15 +55,11 @@ module _ (s : List ℕ) (at : ℕ) (lent : Lengths) (p q : Port) where
       go zero b = b
       go (suc k) b = rw (le-ltb at (length s) h) at b
 
-  -- nor where the op is not whole
-  pub cut : (c : Call) → c ≡ here → c.whole ≡ false → Left s at lent p q → p ≡ q
+  -- nor where no op is read
+  pub cut : (e : Cut) → at < length s → call_at s at ≡ Err e → Left s at lent p q → p ≡ q
   unfolding play_from pick
-  cut c e w f = go f.most f.brings
+  cut e h w f = go f.most f.brings
     where
-      none : (b : Bool) → b && here.whole ≡ false
-      none true = ap (λ (x : Call). x.whole) (sym e) ∙ w
-      none false = refl
-
       go : (k : ℕ) → play_from k s at lent p ≡ q → p ≡ q
-      go zero h = h
-      go (suc k) h = rw (none (ltb at (length s))) at h
+      go zero b = b
+      go (suc k) b = rw (lt-ltb at (length s) h, w) at b

@@ -5,14 +5,17 @@ use Rattle.decide.specs.Family.{family_of}
 use Rattle.stage.specs.Sound.{limit}
 use Rattle.numbers.specs.Choice.{pick}
 use Rattle.stage.specs.declared.State.{State}
-use Rattle.stage.specs.declared.Answered.{Answered}
 use Rattle.stage.specs.declared.settings.Microcode.{Microcode}
 use Rattle.stage.specs.declared.settings.Microcode.TheVariants.{F3dex2, F3dex2NoN}
-use Rattle.stage.specs.Plan.{Outcome, outcome, carry}
+use Rattle.stage.specs.Plan.{Outcome, carry}
 use Rattle.stage.specs.Opening.{blank, opening_plan, areas12}
 use Rattle.sequence.specs.Sequence.{Command, matrix, force, pop, viewport, geometry, texture, fog, number, light, lookat, microcode, load, cull, explain, depth, modify, draw, ink, Areas, Port, Machine, plan, result, with12}
 use Rattle.trace.specs.declared.rooms.Lengths.{Lengths}
+use Rattle.trace.specs.declared.script.Args.{Args}
 use Rattle.trace.specs.declared.script.Call.{Call}
+use Rattle.trace.specs.declared.ops.Op.{Op}
+use Rattle.trace.specs.declared.ops.Op.TheVariants.{Open, Matrix, Force, Pop, Geom, Viewport, Texture, Fog, Lightnum, Light, Lookat, Load, Cull, Depth, Modify, Draw, Ucode, Ink, Explain, Lend, Mark, Poke, Write}
+use Rattle.player.specs.declared.apply.Areas.{Areas as Slices}
 use Rattle.trace.specs.Acts.{written_to}
 use Rattle.player.specs.Acts.{poked_state}
 
@@ -43,58 +46,39 @@ acted (sends m) p = result stage m p
 acted (pokes f i v) p = leaves (poked_state p.state f i v) p
 acted rests p = leaves p.state p
 
--- the op k is x; another is y
-abbrev pub on : Call → ℕ → Act → Act → Act
-on c k x y = pick (eqb c.op k) x y
-
 -- the microcode of a word: its lowest bit
 abbrev pub microcode_of : ℕ → Microcode
 microcode_of n = pick (eqb (n % 2) 0) F3dex2 F3dex2NoN
 
--- the ops that are lent no area, with the data d
-unfoldable pub set_of : Call → List ℕ → Act
-set_of c d =
-    let x = c.args in
-    on c 0x05 (sends (geometry x.a x.b))
-    (on c 0x07 (sends (texture (x.a % 256) (x.b % 256) (eqb (x.c % 2) 1) (x.d % 65536) (x.e % 65536)))
-    (on c 0x08 (sends (fog (signed 16 (x.a % 65536)) (signed 16 (x.b % 65536))))
-    (on c 0x09 (sends (number x.a))
-    (on c 0x0a (sends (light x.a d 0))
-    (on c 0x0b (sends (lookat x.a d 0))
-    (on c 0x0d (sends (cull x.a x.b))
-    (on c 0x0e (sends (depth x.a x.b))
-    (on c 0x11 (sends (microcode (microcode_of x.a)))
-    (on c 0x14 (sends (explain x.a x.b))
-    (on c 0x22 (pokes x.a x.b x.c)
-    rests))))))))))
+-- WHAT EVERY OP IS, with its arguments x and its data d
+unfoldable pub act_is : Op → Args → List ℕ → Act
+act_is Open x d = opens
+act_is Matrix x d = sends (matrix (x.a % 256) d 0)
+act_is Force x d = sends (force d 0)
+act_is Pop x d = sends (pop x.a)
+act_is Geom x d = sends (geometry x.a x.b)
+act_is Viewport x d = sends (viewport d 0)
+act_is Texture x d = sends (texture (x.a % 256) (x.b % 256) (eqb (x.c % 2) 1) (x.d % 65536) (x.e % 65536))
+act_is Fog x d = sends (fog (signed 16 (x.a % 65536)) (signed 16 (x.b % 65536)))
+act_is Lightnum x d = sends (number x.a)
+act_is Light x d = sends (light x.a d 0)
+act_is Lookat x d = sends (lookat x.a d 0)
+act_is Load x d = sends (load x.a x.b d 0)
+act_is Cull x d = sends (cull x.a x.b)
+act_is Depth x d = sends (depth x.a x.b)
+act_is Modify x d = sends (modify x.a x.b x.c)
+act_is Draw x d = sends (draw x.a x.b x.c x.d x.e x.f x.g)
+act_is Ucode x d = sends (microcode (microcode_of x.a))
+act_is Ink x d = sends (ink x.a)
+act_is Explain x d = sends (explain x.a x.b)
+act_is Poke x d = pokes x.a x.b x.c
+act_is Lend x d = rests
+act_is Mark x d = rests
+act_is Write x d = rests
 
--- what is lent none does that in any areas
-abbrev pub SetAre : Call → List ℕ → State → Answered → Type 0
-SetAre c d s r = (l : Areas) → outcome r l ≡ acted (set_of c d) (record { state = s; areas = l })
-
--- the ops on matrices and viewport, and those
-unfoldable pub turn_of : Call → List ℕ → Act
-turn_of c d =
-    on c 0x01 opens
-    (on c 0x02 (sends (matrix (c.args.a % 256) d 0))
-    (on c 0x03 (sends (force d 0))
-    (on c 0x04 (sends (pop c.args.a))
-    (on c 0x06 (sends (viewport d 0))
-    (set_of c d)))))
-
--- what is lent tables 1 and 2 does that in any areas that have them
-abbrev pub TurnAre : Call → List ℕ → State → List Float × List Float → Answered → List Float × List Float → Type 0
-TurnAre c d s x r y = (l : Areas) → outcome r (with12 l y) ≡ acted (turn_of c d) (record { state = s; areas = with12 l x })
-
--- the ops on vertices and triangles, and those: WHAT EVERY OP IS
-unfoldable pub act_of : Call → List ℕ → Act
-act_of c d =
-    let x = c.args in
-    on c 0x0c (sends (load x.a x.b d 0))
-    (on c 0x0f (sends (modify x.a x.b x.c))
-    (on c 0x10 (sends (draw x.a x.b x.c x.d x.e x.f x.g))
-    (on c 0x12 (sends (ink x.a))
-    (turn_of c d))))
+-- a call with its data
+abbrev pub act_of : Call → List ℕ → Act
+act_of c d = act_is c.op c.args d
 
 -- ---- what is lent
 
@@ -112,6 +96,25 @@ areas_of m v s l k g f w i r =
       words = w;
       drawing = record { indices = i; runs = r };
     }
+
+-- what ten slices hold
+abbrev pub held : Slices → Areas
+held x =
+    areas_of x.matrices.now x.viewports.now x.scales.now x.lights.now x.lookats.now x.fogs.now x.floats.now x.words.now x.indices.now
+    x.runs.now
+
+-- they are still the same slices, whatever they hold
+pub record SameSlices (x y : Slices) : Type 0 where
+  pub matrices : x.matrices.ghost_name ≡ y.matrices.ghost_name
+  pub viewports : x.viewports.ghost_name ≡ y.viewports.ghost_name
+  pub scales : x.scales.ghost_name ≡ y.scales.ghost_name
+  pub lights : x.lights.ghost_name ≡ y.lights.ghost_name
+  pub lookats : x.lookats.ghost_name ≡ y.lookats.ghost_name
+  pub fogs : x.fogs.ghost_name ≡ y.fogs.ghost_name
+  pub floats : x.floats.ghost_name ≡ y.floats.ghost_name
+  pub words : x.words.ghost_name ≡ y.words.ghost_name
+  pub indices : x.indices.ghost_name ≡ y.indices.ghost_name
+  pub runs : x.runs.ghost_name ≡ y.runs.ghost_name
 
 -- as much of each area as is asked, or all of it
 abbrev pub lesser : Lengths → Areas → Lengths

@@ -1,5 +1,5 @@
 -- What a script comes to: its ops one after the other. Definitions only.
-use Rattle.std.specs.Prelude.{ℕ, zero, suc, ◌-◌, false, ◌&&◌, List, length, take, drop, get_or, ltb}
+use Rattle.std.specs.Prelude.{ℕ, zero, suc, ◌-◌, false, List, length, take, drop, get_or, ltb}
 use Rattle.numbers.specs.Choice.{pick}
 use Rattle.stage.specs.declared.State.{State}
 use Rattle.stage.specs.Opening.{blank}
@@ -7,10 +7,9 @@ use Rattle.sequence.specs.Sequence.{Areas, Port}
 use Rattle.trace.specs.declared.rooms.Lengths.{Lengths}
 use Rattle.trace.specs.declared.script.Call.{Call}
 use Rattle.trace.specs.Header.{header_size}
-use Rattle.trace.specs.Script.{call_at}
+use Rattle.trace.specs.Script.{call_at, read_or}
 use Rattle.trace.specs.Acts.{length_list, lent_after}
 use Rattle.player.specs.Ops.{step_by}
-use Rattle.trace.specs.Shapes.{shape_of}
 
 -- a state with its areas
 abbrev pub port_of : State → Areas → Port
@@ -36,13 +35,15 @@ lengths_in l =
 abbrev pub data_of : List ℕ → Call → List ℕ
 data_of s c = take (c.to - c.from) (drop c.from s)
 
--- what the ops from a place on leave, n of them at most. An op that is not whole ends the script
+-- what the ops from a place on leave, n of them at most. Where no op is read the script ends
 unfoldable pub play_from : ℕ → List ℕ → ℕ → Lengths → Port → Port
 play_from zero s at lent p = p
 play_from (suc n) s at lent p =
-    let c = call_at (shape_of (get_or s at 0)) s at in
-    let o = step_by c (data_of s c) lent p in
-    pick (ltb at (length s) && c.whole) (play_from n s c.to (lengths_in (lent_after c (length_list lent))) (port_of o.state o.areas)) p
+    let after : Call → Port =
+        λ c. let o = step_by c (data_of s c) lent p in
+        play_from n s c.to (lengths_in (lent_after c (length_list lent))) (port_of o.state o.areas)
+    in
+    pick (ltb at (length s)) (read_or p after (call_at s at)) p
 
 -- a script behind its header, from areas that nothing has opened; every op takes a byte at least
 abbrev pub played : List ℕ → Lengths → Areas → Port

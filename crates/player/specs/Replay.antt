@@ -1,13 +1,14 @@
 -- What the program `replay` leaves of a trace, and what is promised of it. Definitions only.
-use Rattle.std.specs.Prelude.{ℕ, zero, suc, ◌≡◌, false, ◌&&◌, List, [], ◌∷◌, map, length, get_or, replicate, eqb, ltb, pos, Float}
+use Rattle.std.specs.Prelude.{ℕ, zero, suc, ◌≡◌, false, List, [], ◌∷◌, map, length, replicate, eqb, ltb, pos, Float}
 use Rattle.std.specs.Float.{fin}
 use Rattle.numbers.specs.Choice.{pick}
 use Rattle.stage.specs.Opening.{blank}
 use Rattle.sequence.specs.Sequence.{Command, Areas, Port, run, opening}
 use Rattle.trace.specs.declared.rooms.Lengths.{Lengths}
 use Rattle.trace.specs.Header.{header_size, lengths_of}
-use Rattle.trace.specs.Script.{call_at}
-use Rattle.trace.specs.Shapes.{shape_of}
+use Rattle.trace.specs.declared.script.Call.{Call}
+use Rattle.trace.specs.Script.{call_at, read_or}
+use Rattle.trace.specs.Shapes.{number_of}
 use Rattle.player.specs.Ops.{Act, opens, sends, pokes, rests, stage, acted, act_of, areas_of}
 use Rattle.player.specs.Play.{port_of, data_of, played}
 
@@ -30,13 +31,15 @@ replayed s = played s (lengths_of s) (made (lengths_of s))
 
 -- ---- what a script asks for
 
--- the acts of the ops from a place on, n of them at most. An op that is not whole ends the script; a mark only shows something, and is no act
+-- the acts of the ops from a place on, n of them at most. Where no op is read the script ends; a mark only shows something, and is no act
 unfoldable pub acts_from : ℕ → List ℕ → ℕ → List Act
 acts_from zero s at = []
 acts_from (suc n) s at =
-    let c = call_at (shape_of (get_or s at 0)) s at in
-    let later = acts_from n s c.to in
-    pick (ltb at (length s) && c.whole) (pick (eqb c.op 0x21) later (act_of c (data_of s c) ∷ later)) []
+    let acts : Call → List Act =
+        λ c. let later = acts_from n s c.to in
+        pick (eqb (number_of c.op) 0x21) later (act_of c (data_of s c) ∷ later)
+    in
+    pick (ltb at (length s)) (read_or [] acts (call_at s at)) []
 
 -- those of a script behind its header
 abbrev pub acts_of : List ℕ → List Act

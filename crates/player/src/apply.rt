@@ -1,23 +1,32 @@
 // The commands of the stage: each op handed to its command, with the parts of the areas that are lent.
-ghost use Rattle.std.specs.Prelude.{◌≡◌, false, ◌%◌, ◌≤◌, min, eqb};
+ghost use Rattle.std.specs.Prelude.{◌≡◌, false, ◌%◌, eqb};
 ghost use Rattle.stage.specs.Opening.{blank};
 ghost use Rattle.stage.specs.Plan.{outcome, carry, nothing};
 ghost use Rattle.stage.specs.Lights.{texture_plan, microcode_plan};
-ghost use Rattle.player.specs.Ops.{microcode_of, SetAre, TurnAre, acted, act_of, areas_of, step_by};
+ghost use Rattle.player.specs.Ops.{microcode_of, acted, act_of, areas_of, held, SameSlices, lend_by, step_by};
 ghost use Rattle.numbers.specs.Ratio.{signed};
 
 use crate::act;
 use stage::settings::Microcode;
 use stage::{Answer, Answered, State};
+use trace::ops::Op;
 use trace::rooms::Lengths;
+use trace::script;
 use trace::script::{Args, Call};
-use trace::{ops, script};
 
-// The lesser of two lengths.
-fn within(n: usize, most: usize) -> usize
-    ensures { (result ≤ most) × (result ≡ min n most) }
-{
-    if n < most { n } else { most }
+// The ten areas: tables 1 to 6, table 7's f32 and its u32, tables 8 and 9.
+#[derive(Drop)]
+pub struct Areas<'a> {
+    pub matrices: &'a mut [f32],
+    pub viewports: &'a mut [f32],
+    pub scales: &'a mut [f32],
+    pub lights: &'a mut [f32],
+    pub lookats: &'a mut [f32],
+    pub fogs: &'a mut [i16],
+    pub floats: &'a mut [f32],
+    pub words: &'a mut [u32],
+    pub indices: &'a mut [u32],
+    pub runs: &'a mut [u32],
 }
 
 // The low 16 bits, with their sign.
@@ -58,51 +67,8 @@ pub fn unopened() -> Answered
     State::opening(&mut none, &mut nothing)
 }
 
-// The ops that are lent nothing; lend, mark and write leave the state as it is.
-fn set(state: State, c: Call, data: &[u8]) -> Answered
-    ensures { SetAre c «data».now state result }
-{
-    let op = c.op;
-    let a = c.args;
-    match op {
-        ops::GEOM => state.modify_geometry_mode(a.a, a.b),
-        ops::TEXTURE => texture(state, a),
-        ops::FOG => state.set_fog(signed(a.a), signed(a.b)),
-        ops::LIGHTNUM => state.set_num_lights(a.a),
-        ops::LIGHT => state.set_light(a.a, data, 0),
-        ops::LOOKAT => state.set_lookat(a.a, data, 0),
-        ops::CULL => state.cull_display_list(a.a, a.b),
-        ops::DEPTH => state.branch_z(a.a, a.b),
-        ops::UCODE => microcode(state, a.a),
-        ops::EXPLAIN => state.explain_cull(a.a, a.b),
-        ops::POKE => Answered {
-            state: act::poked(state, a.a, a.b, a.c),
-            answer: Answer::Done,
-        },
-        _ => Answered {
-            state: state,
-            answer: Answer::Done,
-        },
-    }
-}
-
-// The ops on matrices and viewport, and those.
-fn turn(state: State, c: Call, data: &[u8], matrices: &mut [f32], viewports: &mut [f32]) -> Answered
-    ensures { TurnAre c «data».now state (matrices.old, viewports.old) result (matrices.new, viewports.new) }
-{
-    let op = c.op;
-    let a = c.args.a;
-    match op {
-        ops::OPEN => State::opening(matrices, viewports),
-        ops::MATRIX => state.matrix(script::octet(a), data, 0, matrices),
-        ops::FORCE => state.force_matrix(data, 0, matrices),
-        ops::POP => state.pop_matrix(a, matrices),
-        ops::VIEWPORT => state.set_viewport(data, 0, viewports),
-        _ => set(state, c, data),
-    }
-}
-
-// Every op, over what is lent of the areas; what `write` stores is left to `step`.
+// Every op, over what is lent of the areas; what `write` stores is left to `step`. Ten slices here and in `lend`, not `Areas`: a slice
+// that is cut from another proves as an argument, and not as a field.
 fn apply(
     state: State,
     c: Call,
@@ -120,23 +86,42 @@ fn apply(
 ) -> Answered
     ensures { outcome result (areas_of matrices.new viewports.new scales.new lights.new lookats.new fogs.new floats.new words.new indices.new runs.new) ≡ acted (act_of c «data».now) (record { state = state; areas = areas_of matrices.old viewports.old scales.old lights.old lookats.old fogs.old floats.old words.old indices.old runs.old }) }
 {
-    let op = c.op;
-    let a = c.args;
-    match op {
-        ops::LOAD => {
-            state.load(
-                a.a, a.b, data, 0, matrices, scales, lights, lookats, fogs, floats, words,
-            )
-        }
-        ops::MODIFY => state.modify_vertex(a.a, a.b, a.c, scales, floats, words),
-        ops::DRAW => state.draw_tri(a.a, a.b, a.c, a.d, a.e, a.f, a.g, indices, runs),
-        ops::INK => state.ink_count(a.a, floats, words, indices),
-        _ => turn(state, c, data, matrices, viewports),
+    let x = c.args;
+    match c.op {
+        Op::Open => State::opening(matrices, viewports),
+        Op::Matrix => state.matrix(script::octet(x.a), data, 0, matrices),
+        Op::Force => state.force_matrix(data, 0, matrices),
+        Op::Pop => state.pop_matrix(x.a, matrices),
+        Op::Geom => state.modify_geometry_mode(x.a, x.b),
+        Op::Viewport => state.set_viewport(data, 0, viewports),
+        Op::Texture => texture(state, x),
+        Op::Fog => state.set_fog(signed(x.a), signed(x.b)),
+        Op::Lightnum => state.set_num_lights(x.a),
+        Op::Light => state.set_light(x.a, data, 0),
+        Op::Lookat => state.set_lookat(x.a, data, 0),
+        Op::Load => state.load(
+            x.a, x.b, data, 0, matrices, scales, lights, lookats, fogs, floats, words,
+        ),
+        Op::Cull => state.cull_display_list(x.a, x.b),
+        Op::Depth => state.branch_z(x.a, x.b),
+        Op::Modify => state.modify_vertex(x.a, x.b, x.c, scales, floats, words),
+        Op::Draw => state.draw_tri(x.a, x.b, x.c, x.d, x.e, x.f, x.g, indices, runs),
+        Op::Ucode => microcode(state, x.a),
+        Op::Ink => state.ink_count(x.a, floats, words, indices),
+        Op::Explain => state.explain_cull(x.a, x.b),
+        Op::Poke => Answered {
+            state: act::poked(state, x.a, x.b, x.c),
+            answer: Answer::Done,
+        },
+        Op::Lend | Op::Mark | Op::Write => Answered {
+            state,
+            answer: Answer::Done,
+        },
     }
 }
 
-// The op c with its data, over the areas, of which so much is lent; `write` reaches all of them.
-pub fn step(
+// Every op over the first numbers of each area, as many as are lent.
+fn lend(
     state: State,
     c: Call,
     data: &[u8],
@@ -152,19 +137,19 @@ pub fn step(
     indices: &mut [u32],
     runs: &mut [u32],
 ) -> Answered
-    ensures { outcome result (areas_of matrices.new viewports.new scales.new lights.new lookats.new fogs.new floats.new words.new indices.new runs.new) ≡ step_by c «data».now lent (record { state = state; areas = areas_of matrices.old viewports.old scales.old lights.old lookats.old fogs.old floats.old words.old indices.old runs.old }) }
+    ensures { outcome result (areas_of matrices.new viewports.new scales.new lights.new lookats.new fogs.new floats.new words.new indices.new runs.new) ≡ lend_by c «data».now lent (record { state = state; areas = areas_of matrices.old viewports.old scales.old lights.old lookats.old fogs.old floats.old words.old indices.old runs.old }) }
 {
-    let n0 = within(lent.matrices, matrices.len());
-    let n1 = within(lent.viewports, viewports.len());
-    let n2 = within(lent.scales, scales.len());
-    let n3 = within(lent.lights, lights.len());
-    let n4 = within(lent.lookats, lookats.len());
-    let n5 = within(lent.fogs, fogs.len());
-    let n6 = within(lent.floats, floats.len());
-    let n7 = within(lent.words, words.len());
-    let n8 = within(lent.indices, indices.len());
-    let n9 = within(lent.runs, runs.len());
-    let r = apply(
+    let n0 = lent.matrices.min(matrices.len());
+    let n1 = lent.viewports.min(viewports.len());
+    let n2 = lent.scales.min(scales.len());
+    let n3 = lent.lights.min(lights.len());
+    let n4 = lent.lookats.min(lookats.len());
+    let n5 = lent.fogs.min(fogs.len());
+    let n6 = lent.floats.min(floats.len());
+    let n7 = lent.words.min(words.len());
+    let n8 = lent.indices.min(indices.len());
+    let n9 = lent.runs.min(runs.len());
+    apply(
         state,
         c,
         data,
@@ -178,7 +163,30 @@ pub fn step(
         &mut words[..n7],
         &mut indices[..n8],
         &mut runs[..n9],
+    )
+}
+
+// The op c with its data, over the areas, of which so much is lent; `write` reaches all of them.
+pub fn step(state: State, c: Call, data: &[u8], lent: Lengths, areas: &mut Areas<'_>) -> Answered
+    ensures same { SameSlices areas.new areas.old }
+    ensures after { outcome result (held areas.new) ≡ step_by c «data».now lent (record { state = state; areas = held areas.old }) }
+{
+    let r = lend(
+        state,
+        c,
+        data,
+        lent,
+        areas.matrices,
+        areas.viewports,
+        areas.scales,
+        areas.lights,
+        areas.lookats,
+        areas.fogs,
+        areas.floats,
+        areas.words,
+        areas.indices,
+        areas.runs,
     );
-    trace::act::write(c, fogs, words, indices, runs);
+    trace::act::write(c, areas.fogs, areas.words, areas.indices, areas.runs);
     r
 }

@@ -3,14 +3,16 @@
 
 ghost use Rattle.std.specs.Prelude.{◌≡◌, ◌≤◌, length, IfOk};
 ghost use Rattle.trace.specs.Header.{header_size, lengths_of, Within};
-ghost use Rattle.player.specs.Ops.{areas_of};
+ghost use Rattle.player.specs.Ops.{held, SameSlices};
 ghost use Rattle.player.specs.Play.{port_of, played};
 ghost use Rattle.player.specs.Replay.{replayed};
 
 use dump::show;
+use player::apply::Areas;
 use stage::State;
 use std::io;
 use std::io::Read;
+use trace::ops::Cut;
 use trace::rooms::Lengths;
 
 // Runs the ops of the script over the areas, with a line for each: the state that is left, and whether all lines were written.
@@ -20,19 +22,11 @@ fn play(
     err: &impl Print,
     s: &[u8],
     own: Lengths,
-    matrices: &mut [f32],
-    viewports: &mut [f32],
-    scales: &mut [f32],
-    lights: &mut [f32],
-    lookats: &mut [f32],
-    fogs: &mut [i16],
-    floats: &mut [f32],
-    words: &mut [u32],
-    indices: &mut [u32],
-    runs: &mut [u32],
+    areas: &mut Areas<'_>,
 ) -> (State, io::Result<()>)
     requires { (header_size s.now ≤ length s.now) × (length s.now ≤ 262144) }
-    ensures { port_of result.0 (areas_of matrices.new viewports.new scales.new lights.new lookats.new fogs.new floats.new words.new indices.new runs.new) ≡ played s.now own (areas_of matrices.old viewports.old scales.old lights.old lookats.old fogs.old floats.old words.old indices.old runs.old) }
+    ensures same { SameSlices areas.new areas.old }
+    ensures after { port_of result.0 (held areas.new) ≡ played s.now own (held areas.old) }
 {
     let mut lent = own;
     let mut g = player::apply::unopened();
@@ -40,65 +34,43 @@ fn play(
     let mut i = 0;
     let mut told = Ok(());
     while at < s.len() {
-        let h = trace::ops::shape_of(s[at]);
-        let c = trace::script::call_at(h, s, at);
-        if !c.whole {
-            if told.is_ok() {
-                told = show::stopped(err, i, at, h.known);
+        let c = match trace::script::call_at(s, at) {
+            Ok(c) => c,
+            Err(cut) => {
+                if told.is_ok() {
+                    told = show::stopped(err, i, at, cut == Cut::Short);
+                }
+                break;
             }
-            break;
-        }
-        let from = c.from;
-        let to = c.to;
-        g = player::apply::step(
-            g.state,
-            c,
-            &s[from..to],
-            lent,
-            matrices,
-            viewports,
-            scales,
-            lights,
-            lookats,
-            fogs,
-            floats,
-            words,
-            indices,
-            runs,
-        );
+        };
+        g = player::apply::step(g.state, c, &s[c.from..c.to], lent, areas);
         lent = trace::act::lent_after(lent, c);
-        let answer = g.answer;
-        let counts = g.state.counts;
         if told.is_ok() {
-            told = show::answered(out, i, c.op, answer, counts);
+            told = show::answered(out, i, c.op as u8, g.answer, g.state.counts);
         }
-        at = to;
+        at = c.to;
         i = i + 1;
     }
     (g.state, told)
 }
 
 // Dumps what the script s leaves, which its `requires` says; s serves that alone.
-fn finish(
-    out: &impl Print,
-    s: &[u8],
-    state: State,
-    matrices: &[f32],
-    viewports: &[f32],
-    scales: &[f32],
-    lights: &[f32],
-    lookats: &[f32],
-    fogs: &[i16],
-    floats: &[f32],
-    words: &[u32],
-    indices: &[u32],
-    runs: &[u32],
-) -> io::Result<()>
-    requires { port_of state (areas_of matrices.now viewports.now scales.now lights.now lookats.now fogs.now floats.now words.now indices.now runs.now) ≡ replayed s.now }
+fn finish(out: &impl Print, s: &[u8], state: State, areas: &Areas<'_>) -> io::Result<()>
+    requires { port_of state (held areas.now) ≡ replayed s.now }
 {
     dump::dump::write(
-        out, state, matrices, viewports, scales, lights, lookats, fogs, floats, words, indices,
-        runs,
+        out,
+        state,
+        areas.matrices,
+        areas.viewports,
+        areas.scales,
+        areas.lights,
+        areas.lookats,
+        areas.fogs,
+        areas.floats,
+        areas.words,
+        areas.indices,
+        areas.runs,
     )
 }
 
@@ -116,48 +88,21 @@ fn replay(out: &impl Print, err: &impl Print, s: &[u8], own: Lengths) -> io::Res
     let mut words = [7u32; trace::rooms::WORDS];
     let mut indices = [7u32; trace::rooms::INDICES];
     let mut runs = [7u32; trace::rooms::RUNS];
-    let n0 = own.matrices;
-    let n1 = own.viewports;
-    let n2 = own.scales;
-    let n3 = own.lights;
-    let n4 = own.lookats;
-    let n5 = own.fogs;
-    let n6 = own.floats;
-    let n7 = own.words;
-    let n8 = own.indices;
-    let n9 = own.runs;
-    let (state, told) = play(
-        out,
-        err,
-        s,
-        own,
-        &mut matrices[..n0],
-        &mut viewports[..n1],
-        &mut scales[..n2],
-        &mut lights[..n3],
-        &mut lookats[..n4],
-        &mut fogs[..n5],
-        &mut floats[..n6],
-        &mut words[..n7],
-        &mut indices[..n8],
-        &mut runs[..n9],
-    );
+    let mut areas = Areas {
+        matrices: &mut matrices[..own.matrices],
+        viewports: &mut viewports[..own.viewports],
+        scales: &mut scales[..own.scales],
+        lights: &mut lights[..own.lights],
+        lookats: &mut lookats[..own.lookats],
+        fogs: &mut fogs[..own.fogs],
+        floats: &mut floats[..own.floats],
+        words: &mut words[..own.words],
+        indices: &mut indices[..own.indices],
+        runs: &mut runs[..own.runs],
+    };
+    let (state, told) = play(out, err, s, own, &mut areas);
     told?;
-    finish(
-        out,
-        s,
-        state,
-        &matrices[..n0],
-        &viewports[..n1],
-        &scales[..n2],
-        &lights[..n3],
-        &lookats[..n4],
-        &fogs[..n5],
-        &floats[..n6],
-        &words[..n7],
-        &indices[..n8],
-        &runs[..n9],
-    )
+    finish(out, s, state, &areas)
 }
 
 // Judges the header, and replays the script where it can be served.

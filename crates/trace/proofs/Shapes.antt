@@ -38,7 +38,7 @@ its-own Poke = refl
 its-own Write = refl
 
 -- so ops of one number are one op
-same : (a b : Op) → number_of a ≡ number_of b → a ≡ b
+pub same : (a b : Op) → number_of a ≡ number_of b → a ≡ b
 same a b e = ap known (sym (its-own a) ∙ ap op_of e ∙ its-own b)
   where
     known : Result Op Cut → Op
