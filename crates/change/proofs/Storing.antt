@@ -1,4 +1,4 @@
--- A row of an area written number by number: what stands there, over the element type and the width of a row. Assumes nothing.
+-- A row of an area copied, changed and put back: what stands there, over the element type and the width of a row. Assumes nothing.
 use Prim.Native.Nat.{ℕ, suc, ◌+◌, ◌-◌, ◌*◌, ◌≤◌, ◌<◌}
 use native.Mathlib.Nat.{add-zero, zero-add, mul-le-mul_right, suc-mul}
 use native.Mathlib.Omega.{arith}

@@ -11,7 +11,7 @@ use crate::{Answer, Answered, State};
 use areas::widths::{INDEX_WIDTH, SCALE_WIDTH};
 use change::judge::{Refusal, Slot, Tables};
 
-// The answer that a refusal of the judge stands for.
+// The answer that a refusal of the judge stands for: a function, since a `From` could not take the slot and the attribute.
 fn answer_of(r: Refusal, slot: u32, attribute: u32) -> Answer
     ensures { result ≡ modify_answer slot attribute r }
 {
