@@ -9,7 +9,7 @@ ghost use Rattle.stage.specs.Answers.{number, values};
 
 use stage::{Answer, Counts};
 use std::io;
-use trace::ops;
+use trace::ops::Op;
 
 pub fn text(out: &impl Print, s: &[u8]) -> io::Result<()> {
     out.write_all(s)
@@ -183,35 +183,32 @@ fn with_values<R, F: FnOnce(&[u32]) -> R>(a: Answer, f: F) -> R
     }
 }
 
-// The name of an op, after a space: a command, of which there is no number 0 and no 0x13, or an act of the driver. A number past
-// them has no name.
-fn name_of(op: u8) -> &'static str {
+// The name of an op, after a space.
+fn name_of(op: Op) -> &'static str {
     match op {
-        ops::OPEN => " open",
-        ops::MATRIX => " matrix",
-        ops::FORCE => " force",
-        ops::POP => " pop",
-        ops::GEOM => " geom",
-        ops::VIEWPORT => " viewport",
-        ops::TEXTURE => " texture",
-        ops::FOG => " fog",
-        ops::LIGHTNUM => " lightnum",
-        ops::LIGHT => " light",
-        ops::LOOKAT => " lookat",
-        ops::LOAD => " load",
-        ops::CULL => " cull",
-        ops::DEPTH => " depth",
-        ops::MODIFY => " modify",
-        ops::DRAW => " draw",
-        ops::UCODE => " ucode",
-        ops::INK => " ink",
-        ops::EXPLAIN => " explain",
-        ops::LEND => " lend",
-        ops::MARK => " mark",
-        ops::POKE => " poke",
-        ops::WRITE => " write",
-        0 | 0x13 => " none",
-        _ => "",
+        Op::Open => " open",
+        Op::Matrix => " matrix",
+        Op::Force => " force",
+        Op::Pop => " pop",
+        Op::Geom => " geom",
+        Op::Viewport => " viewport",
+        Op::Texture => " texture",
+        Op::Fog => " fog",
+        Op::Lightnum => " lightnum",
+        Op::Light => " light",
+        Op::Lookat => " lookat",
+        Op::Load => " load",
+        Op::Cull => " cull",
+        Op::Depth => " depth",
+        Op::Modify => " modify",
+        Op::Draw => " draw",
+        Op::Ucode => " ucode",
+        Op::Ink => " ink",
+        Op::Explain => " explain",
+        Op::Lend => " lend",
+        Op::Mark => " mark",
+        Op::Poke => " poke",
+        Op::Write => " write",
     }
 }
 
@@ -232,11 +229,16 @@ pub(crate) fn counts(out: &impl Print, c: Counts) -> io::Result<()> {
 
 // The line of op number i; `mark` shows the counts.
 pub fn answered(out: &impl Print, i: usize, op: u8, a: Answer, c: Counts) -> io::Result<()> {
-    let name = name_of(op);
+    // No command has the number 0 or 0x13; what lies beyond the ops has no name at all.
+    let name = match Op::try_from(op) {
+        Ok(op) => name_of(op),
+        Err(_) if op == 0 || op == 0x13 => " none",
+        Err(_) => "",
+    };
     let number = number_of(a);
     print!(out; "{i}{name} {number}")?;
     with_values(a, |values| row(out, values))?;
-    if op == ops::MARK {
+    if op == Op::Mark as u8 {
         counts(out, c)?;
     }
     println!(out)

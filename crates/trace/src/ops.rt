@@ -2,11 +2,6 @@
 ghost use Rattle.std.specs.Prelude.{◌≡◌};
 ghost use Rattle.trace.specs.Shapes.{Decodes, taking, shape_of};
 
-// The numbers of two ops that the answers of a trace tell apart.
-pub const LEND: u8 = Op::Lend as u8;
-
-pub const MARK: u8 = Op::Mark as u8;
-
 // The ops, each with its number.
 #[derive(Clone, Copy, Debug, PartialEq, Eq)]
 pub enum Op {
