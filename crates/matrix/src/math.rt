@@ -49,8 +49,8 @@ pub fn mul_col_vec3(m: [[f32; 4]; 4], v: [f32; 3]) -> [f32; 3]
     [dot_of(m, v, 0), dot_of(m, v, 1), dot_of(m, v, 2)]
 }
 
-// a times b: each row of a through b. The rows are written out, as the numbers below: an array's `map` and `from_fn` do not
-// say that a closure keeps the matrix that it holds, and the product would stay unproved.
+// a times b: each row of a through b. Written out: through the array's `map`, whose closure holds b, the product is not
+// proved.
 pub fn mul4(a: [[f32; 4]; 4], b: [[f32; 4]; 4]) -> [[f32; 4]; 4]
     ensures { result ≡ times a b }
 {
@@ -62,7 +62,7 @@ pub fn mul4(a: [[f32; 4]; 4], b: [[f32; 4]; 4]) -> [[f32; 4]; 4]
     ]
 }
 
-// The sixteen numbers row by row, as table 1 has them.
+// The sixteen numbers row by row, as table 1 has them. Written out, here and below, so that the place of each number is seen.
 pub fn to_flat(m: [[f32; 4]; 4]) -> [f32; 16]
     ensures { result ≡ laid m }
 {

@@ -44,7 +44,7 @@ pub struct Slot {
 }
 
 // Stores the nine floats of the row of `v` from place `at` on, the screen numbers 0. Asks for their room. Number by number,
-// here and below: a row made as an array and copied to its place takes a load half as long again.
+// here and below: a row made as an array and copied to its place takes `fill` half as long again.
 fn store_floats(floats: &mut [f32], at: usize, v: Vertex)
     requires { at + float_width ≤ length floats.old }
     ensures { floats.new ≡ put floats.old at (floats_of v) }
