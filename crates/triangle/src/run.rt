@@ -78,8 +78,8 @@ pub fn last_run(runs: &[u32], used: u32, q: Settings) -> Option<Last>
     Some(run_at(runs, areas::place(RUN_WIDTH, used - 1), q))
 }
 
-// A run written at a place. Asks for room, which a draw has judged before it writes: a test of each index would cost. It
-// is stored number by number: `copy_from_slice` of six calls a copy, and a draw then takes half as long again.
+// A run written at a place. Asks for room, which a draw has judged before it writes: a test of each index would cost. By
+// `copy_from_slice` of the six settings a draw's judge and this write take three times as long: it calls a copy.
 pub fn put_run(runs: &mut [u32], at: usize, q: Settings, start: u32, count: u32)
     requires { at + run_width ≤ length runs.old }
     ensures { runs.new ≡ put runs.old at (run_of (six q) start count) }
