@@ -267,7 +267,7 @@ impl State {
     }
 
     // The tables before the rows written: the counts then, of the load's rows too. Asks for counts and a light number in
-    // their ranges.
+    // their ranges. The areas are handed on one by one, here and to `settle`: in a struct, each would be named as often, in the contracts too.
     fn tables_written(
         self,
         d: Settled,
@@ -420,7 +420,8 @@ impl State {
         })
     }
 
-    // Load (11): `count` vertices of 16 bytes into the slots from `first` on. Nothing is written before all is judged.
+    // Load (11): `count` vertices of 16 bytes into the slots from `first` on. Nothing is written before all is judged. It is long since the
+    // columns go out and back one by one, which costs no copy of the state.
     pub fn load(
         mut self,
         first: u32,

@@ -84,7 +84,7 @@ fn opened_state() -> State
     s
 }
 
-// Whether the counts are in their ranges.
+// Whether the counts are in their ranges. A line each: a chain over an array of them would name all nine too.
 fn sound_counts(c: Counts) -> bool
     ensures { result ≡ all (count_tests c) }
 {
@@ -256,15 +256,15 @@ impl State {
     {
         let n = self.counts.matrices;
         let room = areas::room_of(MATRIX_WIDTH, matrices.len());
-        let d = decide::stack::popped_depth(count, self.depth);
-        let stack = self.stack;
-        let p = self.projection;
         let answer = match self.early_in(0, 0, 0, 1, n, room) {
             Err(refusal) => refusal,
             Ok(()) => {
+                let d = decide::stack::popped_depth(count, self.depth);
                 if d == self.depth {
                     Answer::Done
                 } else {
+                    let stack = self.stack;
+                    let p = self.projection;
                     let product = decide::stack::product_of(decide::stack::top_at(&stack, d), p);
                     match decide::append::append(matrices, n, &product) {
                         None => Answer::NoRoom(1),
