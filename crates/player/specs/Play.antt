@@ -40,8 +40,8 @@ unfoldable pub play_from : ℕ → List ℕ → ℕ → Lengths → Port → Por
 play_from zero s at lent p = p
 play_from (suc n) s at lent p =
     let after : Call → Port =
-        λ c. let o = step_by c (data_of s c) lent p in
-        play_from n s c.to (lengths_in (lent_after c (length_list lent))) (port_of o.state o.areas)
+    λ c. let o = step_by c (data_of s c) lent p in
+    play_from n s c.to (lengths_in (lent_after c (length_list lent))) (port_of o.state o.areas)
     in
     pick (ltb at (length s)) (read_or p after (call_at s at)) p
 

@@ -36,8 +36,8 @@ unfoldable pub acts_from : ℕ → List ℕ → ℕ → List Act
 acts_from zero s at = []
 acts_from (suc n) s at =
     let acts : Call → List Act =
-        λ c. let later = acts_from n s c.to in
-        pick (eqb (number_of c.op) 0x21) later (act_of c (data_of s c) ∷ later)
+    λ c. let later = acts_from n s c.to in
+    pick (eqb (number_of c.op) 0x21) later (act_of c (data_of s c) ∷ later)
     in
     pick (ltb at (length s)) (read_or [] acts (call_at s at)) []
 

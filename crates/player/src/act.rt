@@ -4,7 +4,7 @@ ghost use Rattle.player.specs.Acts.{count_list, count_after, counts_of, poked_st
 
 use stage::{Counts, State};
 
-// The counts with n entries in use of a table, 1 to 9.
+// The counts with n entries in use of a table, 1 to 9, as the format numbers them.
 fn with_count(c: Counts, table: u32, n: u32) -> Counts
     ensures { result ≡ counts_of (count_after table n (count_list c)) }
 {
@@ -24,7 +24,8 @@ fn with_count(c: Counts, table: u32, n: u32) -> Counts
     r
 }
 
-// The state tampered with. An index of a slot over 255 is taken by its low 8 bits; 5, 6 and from 8 on there is no field.
+// The state tampered with: fields have the format's numbers. An index of a slot over 255 is taken by its low 8 bits; 5, 6 and from 8 on there is no field.
+#[tactic(auto, unfolding(crate::specs::Acts::poked_state))]
 pub fn poked(s: State, field: u32, index: u32, value: u32) -> State
     ensures { result ≡ poked_state s field index value }
 {

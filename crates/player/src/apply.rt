@@ -48,6 +48,7 @@ fn texture(state: State, a: Args) -> Answered
     )
 }
 
+#[tactic(auto, unfolding(numbers::specs::Choice::pick))]
 fn microcode(state: State, number: u32) -> Answered
     ensures { outcome result tt ≡ carry nothing (microcode_plan state (microcode_of number)) state tt }
 {

@@ -37,17 +37,13 @@ fn play(
         let c = match trace::script::call_at(s, at) {
             Ok(c) => c,
             Err(cut) => {
-                if told.is_ok() {
-                    told = show::stopped(err, i, at, cut == Cut::Short);
-                }
+                told = told.and_then(|()| show::stopped(err, i, at, cut == Cut::Short));
                 break;
             }
         };
         g = player::apply::step(g.state, c, &s[c.from..c.to], lent, areas);
         lent = trace::act::lent_after(lent, c);
-        if told.is_ok() {
-            told = show::answered(out, i, c.op as u8, g.answer, g.state.counts);
-        }
+        told = told.and_then(|()| show::answered(out, i, c.op as u8, g.answer, g.state.counts));
         at = c.to;
         i = i + 1;
     }
@@ -126,7 +122,8 @@ fn judge(out: &impl Print, err: &impl Print, s: &[u8]) -> io::Result<()> {
     replay(out, err, s, own)
 }
 
-// Reads until the end of the input, or until there is no more room, and answers how many bytes it read.
+// Reads until the end of the input, or until there is no more room, and answers how many bytes it read: the library reads so far only into
+// a Vec.
 fn read_full(from: &mut impl Read, bytes: &mut [u8]) -> io::Result<usize>
     ensures { IfOk result (λ n. n ≤ length bytes.new) }
 {

@@ -11,7 +11,7 @@ use crate::rooms::Lengths;
 use crate::script;
 use crate::script::Call;
 
-// The lengths with n for that of an area. From 10 on there is no area.
+// The lengths with n for that of an area, as the format numbers them. From 10 on there is no area.
 fn with_length(l: Lengths, area: u32, n: usize) -> Lengths
     ensures { length_list result ≡ set (length_list l) area n }
 {
@@ -33,6 +33,7 @@ fn with_length(l: Lengths, area: u32, n: usize) -> Lengths
 }
 
 // The lengths lent after the op c.
+#[tactic(auto, using(crate::proofs::Shapes::other), unfolding(crate::specs::Acts::lent_after, numbers::specs::Choice::pick))]
 pub fn lent_after(l: Lengths, c: Call) -> Lengths
     ensures { length_list result ≡ lent_after c (length_list l) }
 {
@@ -50,6 +51,7 @@ fn writes_to(c: Call, area: u32) -> bool
 }
 
 // A number written at a place, where it is asked and the place lies in the area.
+#[tactic(auto, unfolding(areas::specs::Area::put, numbers::specs::Choice::pick))]
 fn write_at<T: Copy>(area: &mut [T], on: bool, at: usize, value: T)
     ensures { area.new ≡ pick on (put area.old at (value ∷ [])) area.old }
 {

@@ -8,6 +8,7 @@ use crate::rooms::Lengths;
 use crate::script::word;
 
 // Whether a script begins with GST2.
+#[tactic(auto, unfolding(crate::specs::Header::is_second))]
 fn is_second(s: &[u8]) -> bool
     ensures { result ≡ is_second s.now }
 {
@@ -15,6 +16,7 @@ fn is_second(s: &[u8]) -> bool
 }
 
 // Whether a script begins with GST1 or GST2.
+#[tactic(auto, unfolding(crate::specs::Header::is_trace))]
 pub fn is_trace(s: &[u8]) -> bool
     ensures { result ≡ is_trace s.now }
 {
@@ -22,6 +24,7 @@ pub fn is_trace(s: &[u8]) -> bool
 }
 
 // How many bytes the header has: as many as that of GST1 where it does not begin with GST2.
+#[tactic(auto, unfolding(crate::specs::Header::header_size, numbers::specs::Choice::pick))]
 pub fn size_of(s: &[u8]) -> usize
     ensures { result ≡ header_size s.now }
 {
@@ -33,6 +36,7 @@ pub fn size_of(s: &[u8]) -> usize
 }
 
 // The word at which the lengths begin.
+#[tactic(auto, unfolding(crate::specs::Header::first_length, numbers::specs::Choice::pick))]
 fn first_length(s: &[u8]) -> u8
     ensures { (result ≡ first_length s.now) × (result ≤ 2) }
 {

@@ -42,6 +42,7 @@ impl TryFrom<u8> for Op {
 
     ghost try_from_gives = { Decodes };
 
+    #[tactic(auto, unfolding(crate::specs::Shapes::op_of, numbers::specs::Choice::pick))]
     fn try_from(number: u8) -> Result<Op, Cut> {
         match number {
             0x01 => Ok(Op::Open),

@@ -30,7 +30,8 @@ pub const INDICES: usize = 12288;
 
 pub const RUNS: usize = 16384;
 
-// A length, in numbers, for each area: tables 1 to 6, table 7's f32 and its u32, tables 8 and 9.
+// A length, in numbers, for each area: tables 1 to 6, table 7's f32 and its u32, tables 8 and 9. Fields, no array: each length and bound
+// stands beside the area of its name.
 #[derive(Clone, Copy)]
 pub struct Lengths {
     pub matrices: usize,

@@ -4,7 +4,7 @@ ghost use Rattle.trace.specs.Script.{word_at, args_of, size_of, data_of, call_at
 
 use crate::ops::{Cut, Op, Shape};
 
-// The seven words from an op's first argument on. An op reads as many as it has arguments.
+// The seven words from an op's first argument on. An op reads as many as it has arguments. Names, no array: commands take them one by one.
 #[derive(Clone, Copy)]
 pub struct Args {
     pub a: u32,
@@ -37,7 +37,12 @@ pub fn word(s: &[u8], k: u8) -> u32
     ensures { result ≡ word_at s.now k }
 {
     let at = (k as usize) * 4;
-    u32::from_le_bytes([byte(s, at), byte(s, at + 1), byte(s, at + 2), byte(s, at + 3)])
+    u32::from_le_bytes([
+        byte(s, at),
+        byte(s, at + 1),
+        byte(s, at + 2),
+        byte(s, at + 3),
+    ])
 }
 
 // The low 8 bits.
@@ -69,6 +74,7 @@ fn args_of(s: &[u8]) -> Args
 }
 
 // How many bytes the words of an op take.
+#[tactic(auto, unfolding(crate::specs::Script::size_of, numbers::specs::Choice::pick))]
 fn size_of(h: Shape) -> usize
     ensures { result ≡ size_of h }
 {
@@ -77,6 +83,7 @@ fn size_of(h: Shape) -> usize
 }
 
 // How many bytes of data an op has.
+#[tactic(auto, unfolding(crate::specs::Script::data_of, numbers::specs::Choice::pick))]
 fn data_of(h: Shape, s: &[u8]) -> usize
     ensures { result ≡ data_of h s.now }
 {

@@ -9,7 +9,7 @@ use Rattle.player.specs.Play.{port_of, play_from}
 use Rattle.player.proofs.Playing.{left_behind, ended, cut}
 use Rattle.replay.proofs.Again.{same_as_first}
 use Rattle.replay.proofs.play.Goals as goal
-use Rattle.replay.proofs.play.Goals.{else-loop-at-test, then-loop-at-test+in-Err+then-is_ok, then-loop-at-test+in-Err+else-is_ok}
+use Rattle.replay.proofs.play.Goals.{else-loop-at-test, then-loop-at-test+in-Err}
 
 pub loop-at-preserved : goal.loop-at-preserved
 loop-at-preserved p c =
@@ -35,7 +35,6 @@ returns-clause-after p c =
     {b = comes}
     (elim c.loop-at-test.branch [
       | else-loop-at-test w ↦ ended s v.at v.lent here comes w.loop-at-test.false v.invariant.0
-      | then-loop-at-test+in-Err+then-is_ok w ↦ cut s v.at v.lent here comes _ w.loop-at-test.true (sym w.in-Err.ensures.value) v.invariant.0
-      | then-loop-at-test+in-Err+else-is_ok w ↦ cut s v.at v.lent here comes _ w.loop-at-test.true (sym w.in-Err.ensures.value) v.invariant.0
+      | then-loop-at-test+in-Err w ↦ cut s v.at v.lent here comes _ w.loop-at-test.true (sym w.in-Err.ensures.value) v.invariant.0
     ])
     (ap (λ (g : State). play_from (length s) s (header_size s) a.own (port_of g (held a.areas.now))) c.unopened-g.ensures)

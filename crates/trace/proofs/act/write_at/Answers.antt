@@ -6,10 +6,6 @@ use Rattle.areas.specs.Area.{put}
 use Rattle.trace.proofs.act.write_at.Goals as goal
 use Rattle.trace.proofs.act.write_at.Goals.{else-on-via-then-on+else-at-area, else-on-via-else-on}
 
-pub returns-then-at-area : goal.returns-then-at-area
-unfolding put pick
-returns-then-at-area g c = rw c.if-on.true
-
 pub returns-else-on : goal.returns-else-on
 unfolding put pick
 returns-else-on g c =
