@@ -2,10 +2,12 @@
 // stands before it.
 #![tactic(auto)]
 
-ghost use Rattle.std.specs.Prelude.{◌≡◌};
+ghost use Rattle.std.specs.Prelude.{◌≡◌, ◌<◌, ◌≤◌, ◌^◌};
 ghost use Rattle.std.specs.Float.{binary32};
 ghost use Rattle.numbers.specs.Ratio.{signed, of_ratio};
 ghost use Rattle.change.specs.Decoded.{decoded, depth_after};
+
+use numbers::ratio::by;
 
 pub mod judge;
 pub mod remake;
@@ -20,18 +22,12 @@ pub enum Change {
     Depth(f32, f64),
 }
 
-// A half read with its sign, divided by 32.
-fn half_by_32(h: u16) -> f32
-    ensures { result ≡ of_ratio binary32 (signed 16 h) 32 }
+// A half read with its sign, divided by D, which asks for what `by` asks for.
+fn half_by<const D: u32>(h: u16) -> f32
+    requires { (0 < D) × (D ≤ 2 ^ 24) }
+    ensures { result ≡ of_ratio binary32 (signed 16 h) D }
 {
-    numbers::ratio::by::<32, _>(numbers::signed::signed_half(h))
-}
-
-// A half read with its sign, divided by 4.
-fn half_by_4(h: u16) -> f32
-    ensures { result ≡ of_ratio binary32 (signed 16 h) 4 }
-{
-    numbers::ratio::by::<4, _>(numbers::signed::signed_half(h))
+    by::<D, _>(numbers::signed::signed_half(h))
 }
 
 // The change that an attribute number and a value word ask for, where they ask for one.
@@ -44,13 +40,13 @@ pub fn decode(attribute: u32, value: u32) -> Option<Change>
     match attribute {
         0x10 => Some(Change::Colour(value.swap_bytes())),
         0x14 => {
-            let s = half_by_32(high);
-            let t = half_by_32(low);
+            let s = half_by::<32>(high);
+            let t = half_by::<32>(low);
             Some(Change::Texture(s, t))
         }
         0x18 => {
-            let x = half_by_4(high);
-            let y = half_by_4(low);
+            let x = half_by::<4>(high);
+            let y = half_by::<4>(low);
             Some(Change::Screen(x, y))
         }
         0x1C => {
