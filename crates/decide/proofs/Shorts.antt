@@ -41,4 +41,3 @@ module _ (l : List Fill) (i : ℕ) (d : Fill) (r : Bool) (at : i < length l) (as
 pub none_left : (l : List Fill) (i : ℕ) → length l ≤ i → First l i → None ≡ first_short (map fill_of l)
 unfolding first_short
 none_left l i h e = ap (λ (k : List Fill). first_short (map fill_of k)) (sym (drop_of_length-le l h)) ∙ e
-
