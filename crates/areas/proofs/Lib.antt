@@ -1,4 +1,3 @@
 pub mod Tables
 pub mod Puts
 pub mod Sames
-pub mod Fields
