@@ -1,21 +1,13 @@
--- The library's tests of floats and those of the definitions are one. Assumes nothing.
-use mathlib.Core.Path.{◌≡◌, refl}
+-- The library's test of each of four floats and that of the definition are one. Assumes nothing.
+use mathlib.Core.Path.{◌≡◌}
 use mathlib.Core.Bool.{and-true, and_assoc}
 use mathlib.Core.List.{List, [], ◌∷◌}
 use native.Mathlib.Omega.{arith}
 use lib.ListN.{length}
-use lib.Ieee.{Float, nan, inf, fin}
+use lib.Ieee.{Float}
 use lib.Ieee.Scale.{finite}
-use Rattle.std.specs.Float.{float_is_finite}
 use Rattle.std.specs.List.{list_all}
 use Rattle.matrix.specs.Clip.{all_finite}
-
--- whether one is finite
-pub finite-is : (x : Float) → float_is_finite x ≡ finite x
-unfolding float_is_finite
-finite-is nan = refl
-finite-is (inf s) = refl
-finite-is (fin s m e) = refl
 
 -- whether each of four is
 pub all-four : (p : List Float) → length p ≡ 4 → list_all finite p ≡ all_finite p

@@ -1,4 +1,5 @@
-// Whether a float is finite, and an f32 as an f64.
+// Whether a float is finite, and an f32 as an f64. One test for each format, as the library's own methods are: these say it by
+// the logic's word.
 ghost use Rattle.std.specs.Prelude.{◌≡◌};
 ghost use Rattle.std.specs.Float.Ieee.Scale.{finite};
 
