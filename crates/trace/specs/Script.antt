@@ -35,26 +35,29 @@ unfoldable pub data_of : Shape → List ℕ → ℕ
 data_of h s = pick h.bytes (word_at s h.arguments) 0
 
 -- an op with m bytes of data from a place on
-abbrev pub whole_of : Op → Args → ℕ → ℕ → Call
+abbrev pub whole_of : ℕ → Args → ℕ → ℕ → Call
 whole_of o x at m = record { op = o; args = x; from = at; to = at + m }
 
--- the op at a place: none where the script ends before its words or its data do
-unfoldable pub read_as : List ℕ → ℕ → Result Op Cut → Result Call Cut
-read_as s at (Err e) = Err e
-read_as s at (Ok o) =
-    let h = shape_of o in
+-- the op at a place, of a given shape: none where the script ends before its words or its data do
+unfoldable pub call_of : Shape → List ℕ → ℕ → Result Call Cut
+call_of h s at =
     let t = drop (at + 1) s in
     pick (leb (size_of h) (length t))
-    (pick (leb (data_of h t) (length t - size_of h)) (Ok (whole_of o (args_of t) (at + 1 + size_of h) (data_of h t))) (Err Short))
+    (pick (leb (data_of h t) (length t - size_of h)) (Ok (whole_of (get_or s at 0) (args_of t) (at + 1 + size_of h) (data_of h t))) (Err Short))
     (Err Short)
 
--- and none where no op has the number that stands there
+-- of the shape of an op, if there is one
+abbrev pub read_as : List ℕ → ℕ → Result Op Cut → Result Call Cut
+read_as s at (Ok o) = call_of (shape_of o) s at
+read_as s at (Err e) = Err e
+
+-- and of that which its number says: none where no op has the number
 unfoldable pub call_at : List ℕ → ℕ → Result Call Cut
 call_at s at = read_as s at (op_of (get_or s at 0))
 
--- what f makes of the op that is read, and x where none is
-abbrev pub read_or : {A : Type 0} → A → (Call → A) → Result Call Cut → A
-read_or x f (Ok c) = f c
+-- what f makes of what is read, and x where nothing is
+abbrev pub read_or : {A B : Type 0} → B → (A → B) → Result A Cut → B
+read_or x f (Ok a) = f a
 read_or x f (Err e) = x
 
 -- the next op stands behind this one, in a script of n bytes, and the data in front of it

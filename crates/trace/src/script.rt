@@ -1,6 +1,6 @@
 // Reads a script: words, and the op at a place with its arguments and data.
 ghost use Rattle.std.specs.Prelude.{◌≡◌, ◌%◌, ◌<◌, length, get_or, IfOk};
-ghost use Rattle.trace.specs.Script.{word_at, args_of, size_of, data_of, call_at, Ahead};
+ghost use Rattle.trace.specs.Script.{word_at, args_of, size_of, data_of, call_of, call_at, Ahead};
 
 use crate::ops::{Cut, Op, Shape};
 
@@ -16,10 +16,11 @@ pub struct Args {
     pub g: u32,
 }
 
-// An op. Its data are the bytes from `from` up to `to`, where the next op stands.
+// An op. Its data are the bytes from `from` up to `to`, where the next op stands. Its number is any, since `step` and `write` take any call:
+// one that names no op does nothing.
 #[derive(Clone, Copy)]
 pub struct Call {
-    pub op: Op,
+    pub op: u8,
     pub args: Args,
     pub from: usize,
     pub to: usize,
@@ -94,14 +95,12 @@ fn data_of(h: Shape, s: &[u8]) -> usize
     }
 }
 
-// The op at `at`.
-pub fn call_at(s: &[u8], at: usize) -> Result<Call, Cut>
+// The op at `at`, of the shape h.
+pub fn call_of(h: Shape, s: &[u8], at: usize) -> Result<Call, Cut>
     requires { at < length s.now }
-    ensures value { result ≡ call_at s.now at }
+    ensures value { result ≡ call_of h s.now at }
     ensures ahead { IfOk result (Ahead at (length s.now)) }
 {
-    let op = Op::try_from(s[at])?;
-    let h = op.shape();
     let rest = &s[at + 1..];
     let size = size_of(h);
     if rest.len() < size {
@@ -113,9 +112,19 @@ pub fn call_at(s: &[u8], at: usize) -> Result<Call, Cut>
     }
     let from = at + 1 + size;
     Ok(Call {
-        op,
+        op: s[at],
         args: args_of(rest),
         from,
         to: from + n,
     })
+}
+
+// The op at `at`, of the shape that its number says.
+pub fn call_at(s: &[u8], at: usize) -> Result<Call, Cut>
+    requires { at < length s.now }
+    ensures value { result ≡ call_at s.now at }
+    ensures ahead { IfOk result (Ahead at (length s.now)) }
+{
+    let op = Op::try_from(s[at])?;
+    call_of(op.shape(), s, at)
 }
