@@ -43,7 +43,7 @@ fn play(
         };
         g = player::apply::step(g.state, c, &s[c.from..c.to], lent, areas);
         lent = trace::act::lent_after(lent, c);
-        told = told.and_then(|()| show::answered(out, i, c.op as u8, g.answer, g.state.counts));
+        told = told.and_then(|()| show::answered(out, i, c.op, g.answer, g.state.counts));
         at = c.to;
         i = i + 1;
     }
