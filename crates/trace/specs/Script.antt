@@ -1,5 +1,6 @@
 -- How an op is read from a script. Definitions only.
 use Rattle.std.specs.Prelude.{ℕ, ◌+◌, ◌*◌, ◌-◌, ◌≤◌, ◌<◌, List, length, drop, get_or, leb, Result, Ok, Err}
+pub use Rattle.input.specs.Words.{word_at}
 use Rattle.numbers.specs.Choice.{pick}
 use Rattle.trace.specs.declared.ops.Op.{Op}
 use Rattle.trace.specs.declared.ops.Cut.{Cut}
@@ -8,10 +9,6 @@ use Rattle.trace.specs.declared.ops.Shape.{Shape}
 use Rattle.trace.specs.declared.script.Args.{Args}
 use Rattle.trace.specs.declared.script.Call.{Call}
 use Rattle.trace.specs.Shapes.{op_of, shape_of}
-
--- word k of the bytes, of 32 bits, low byte first, with 0 for a byte that lies past the end
-abbrev pub word_at : List ℕ → ℕ → ℕ
-word_at s k = get_or s (k * 4) 0 + get_or s (k * 4 + 1) 0 * 256 + get_or s (k * 4 + 2) 0 * 65536 + get_or s (k * 4 + 3) 0 * 16777216
 
 -- the first seven words
 abbrev pub args_of : List ℕ → Args

@@ -1,8 +1,10 @@
 // Reads a script: words, and the op at a place with its arguments and data.
-ghost use Rattle.std.specs.Prelude.{◌≡◌, ◌%◌, ◌<◌, length, get_or, IfOk};
-ghost use Rattle.trace.specs.Script.{word_at, args_of, size_of, data_of, call_of, call_at, Ahead};
+ghost use Rattle.std.specs.Prelude.{◌≡◌, ◌%◌, ◌<◌, length, IfOk};
+ghost use Rattle.trace.specs.Script.{args_of, size_of, data_of, call_of, call_at, Ahead};
 
 use crate::ops::{Cut, Op, Shape};
+
+pub use input::word;
 
 // The seven words from an op's first argument on. An op reads as many as it has arguments. Names, no array: commands take them one by one.
 #[derive(Clone, Copy)]
@@ -24,26 +26,6 @@ pub struct Call {
     pub args: Args,
     pub from: usize,
     pub to: usize,
-}
-
-// The byte at `at`, 0 past the end.
-fn byte(s: &[u8], at: usize) -> u8
-    ensures { result ≡ get_or s.now at 0 }
-{
-    s.get(at).copied().unwrap_or(0)
-}
-
-// Word k.
-pub fn word(s: &[u8], k: u8) -> u32
-    ensures { result ≡ word_at s.now k }
-{
-    let at = (k as usize) * 4;
-    u32::from_le_bytes([
-        byte(s, at),
-        byte(s, at + 1),
-        byte(s, at + 2),
-        byte(s, at + 3),
-    ])
 }
 
 // The low 8 bits.
