@@ -7,6 +7,7 @@ use mathlib.Core.Logic.{◌⊎◌, inl, inr}
 use lib.Dec.{eqb}
 use lib.IntN.{ℤ}
 use lib.Ieee.{Float}
+use Rattle.std.specs.Prelude.{Ok, Err}
 use Rattle.numbers.specs.Ratio.{signed}
 use Rattle.decide.specs.Family.{family_of}
 use Rattle.decide.specs.Lights.{light_number}
@@ -25,9 +26,16 @@ use Rattle.sequence.specs.Sequence.{Areas, Port, with12}
 use Rattle.sequence.proofs.Joined as joined
 use Rattle.trace.specs.declared.rooms.Lengths.{Lengths}
 use Rattle.trace.specs.declared.script.Call.{Call}
+use Rattle.trace.specs.declared.ops.Cut.{Cut}
+use Rattle.trace.specs.declared.ops.Op.{Op}
 use Rattle.trace.specs.declared.ops.Op.TheVariants.{Open, Matrix, Force, Pop, Geom, Viewport, Texture, Fog, Lightnum, Light, Lookat, Load, Cull, Depth, Modify, Draw, Ucode, Ink, Explain, Lend, Mark, Poke, Write}
+use Rattle.trace.specs.Shapes.{op_of}
 use Rattle.player.specs.Acts.{poked_state}
 use Rattle.player.specs.Ops.{opens, rests, acted, microcode_of, act_is, act_of, lesser, firsts, behind, lend_by, written_by, step_by}
+
+-- the op that a number is read as
+pub named : (n : ℕ) {o p : Op} → Ok o ≡ op_of n → o ≡ p → op_of n ≡ Ok p
+named n e f = sym e ∙ ap Ok f
 
 -- an op over the ten areas l came to r and the areas x
 abbrev pub ApplyAre : Call → List ℕ → State → Areas → Answered → Areas → Type 0
@@ -39,51 +47,51 @@ module _ (c : Call) (d : List ℕ) (s : State) (r : Answered) (l : Areas) where
 
   -- ---- the ops that are lent no area
 
-  pub apply-geometry : c.op ≡ Geom → outcome r tt ≡ carry nothing (geometry_plan (family_of s.microcode) s c.args.a c.args.b) s tt → ApplyAre c d s l r l
+  pub apply-geometry : op_of c.op ≡ Ok Geom → outcome r tt ≡ carry nothing (geometry_plan (family_of s.microcode) s c.args.a c.args.b) s tt → ApplyAre c d s l r l
   unfolding act_is acted
   apply-geometry e h = joined.joined-geometry family_of limit p c.args.a c.args.b r h ∙ rw e
 
-  pub apply-texture : c.op ≡ Texture
+  pub apply-texture : op_of c.op ≡ Ok Texture
       → outcome r tt ≡ carry nothing (texture_plan s (c.args.a % 256) (c.args.b % 256) (eqb (c.args.c % 2) 1) (c.args.d % 65536) (c.args.e % 65536)) s tt → ApplyAre c d s l r l
   unfolding act_is acted
   apply-texture e h = joined.joined-texture family_of limit p _ _ _ _ _ r h ∙ rw e
 
-  pub apply-fog : (m o : ℤ) → c.op ≡ Fog → m ≡ signed 16 (c.args.a % 65536) → o ≡ signed 16 (c.args.b % 65536)
+  pub apply-fog : (m o : ℤ) → op_of c.op ≡ Ok Fog → m ≡ signed 16 (c.args.a % 65536) → o ≡ signed 16 (c.args.b % 65536)
       → outcome r tt ≡ carry nothing (fog_plan s m o) s tt → ApplyAre c d s l r l
   unfolding act_is acted
   apply-fog m o e f g h = joined.joined-fog family_of limit p m o r h ∙ rw (e, f, g)
 
-  pub apply-number : c.op ≡ Lightnum → outcome r tt ≡ carry nothing (number_plan s (light_number c.args.a)) s tt → ApplyAre c d s l r l
+  pub apply-number : op_of c.op ≡ Ok Lightnum → outcome r tt ≡ carry nothing (number_plan s (light_number c.args.a)) s tt → ApplyAre c d s l r l
   unfolding act_is acted
   apply-number e h = joined.joined_number family_of limit p c.args.a r h ∙ rw e
 
-  pub apply-light : c.op ≡ Light → outcome r tt ≡ carry nothing (light_plan s c.args.a d 0) s tt → ApplyAre c d s l r l
+  pub apply-light : op_of c.op ≡ Ok Light → outcome r tt ≡ carry nothing (light_plan s c.args.a d 0) s tt → ApplyAre c d s l r l
   unfolding act_is acted
   apply-light e h = joined.joined-light family_of limit p c.args.a d 0 r h ∙ rw e
 
-  pub apply-lookat : c.op ≡ Lookat → outcome r tt ≡ carry nothing (lookat_plan s c.args.a d 0) s tt → ApplyAre c d s l r l
+  pub apply-lookat : op_of c.op ≡ Ok Lookat → outcome r tt ≡ carry nothing (lookat_plan s c.args.a d 0) s tt → ApplyAre c d s l r l
   unfolding act_is acted
   apply-lookat e h = joined.joined-lookat family_of limit p c.args.a d 0 r h ∙ rw e
 
-  pub apply-cull : c.op ≡ Cull → outcome r tt ≡ carry nothing (cull_plan (limit s) s c.args.a c.args.b) s tt → ApplyAre c d s l r l
+  pub apply-cull : op_of c.op ≡ Ok Cull → outcome r tt ≡ carry nothing (cull_plan (limit s) s c.args.a c.args.b) s tt → ApplyAre c d s l r l
   unfolding act_is acted
   apply-cull e h = joined.joined-cull family_of limit p c.args.a c.args.b r h ∙ rw e
 
-  pub apply-depth : c.op ≡ Depth → outcome r tt ≡ carry nothing (depth_plan (limit s) s c.args.a c.args.b) s tt → ApplyAre c d s l r l
+  pub apply-depth : op_of c.op ≡ Ok Depth → outcome r tt ≡ carry nothing (depth_plan (limit s) s c.args.a c.args.b) s tt → ApplyAre c d s l r l
   unfolding act_is acted
   apply-depth e h = joined.joined-depth family_of limit p c.args.a c.args.b r h ∙ rw e
 
-  pub apply-microcode : c.op ≡ Ucode → outcome r tt ≡ carry nothing (microcode_plan s (microcode_of c.args.a)) s tt → ApplyAre c d s l r l
+  pub apply-microcode : op_of c.op ≡ Ok Ucode → outcome r tt ≡ carry nothing (microcode_plan s (microcode_of c.args.a)) s tt → ApplyAre c d s l r l
   unfolding act_is acted
   apply-microcode e h = joined.joined-microcode family_of limit p (microcode_of c.args.a) r h ∙ rw e
 
-  pub apply-explain : c.op ≡ Explain → outcome r tt ≡ carry nothing (explain_plan (limit s) s c.args.a c.args.b) s tt → ApplyAre c d s l r l
+  pub apply-explain : op_of c.op ≡ Ok Explain → outcome r tt ≡ carry nothing (explain_plan (limit s) s c.args.a c.args.b) s tt → ApplyAre c d s l r l
   unfolding act_is acted
   apply-explain e h = joined.joined-explain family_of limit p c.args.a c.args.b r h ∙ rw e
 
   -- ---- those on matrices and viewport
 
-  pub apply-open : (m v : List Float) → c.op ≡ Open
+  pub apply-open : (m v : List Float) → op_of c.op ≡ Ok Open
       → let x : List Float × List Float = (l.matrices, l.viewports) in
       let y : List Float × List Float = (m, v) in
       outcome r y ≡ carry areas12 (opening_plan l.matrices l.viewports) (blank false) x
@@ -93,54 +101,54 @@ module _ (c : Call) (d : List ℕ) (s : State) (r : Answered) (l : Areas) where
       let q : outcome r (with12 l (m, v)) ≡ acted opens p = λ i. record { state = (h i).state; number = (h i).number; values = (h i).values; areas = with12 l (h i).areas } in
       q ∙ rw e
 
-  pub apply-matrix : (f : ℕ) (m : List Float) → c.op ≡ Matrix → f ≡ c.args.a % 256
+  pub apply-matrix : (f : ℕ) (m : List Float) → op_of c.op ≡ Ok Matrix → f ≡ c.args.a % 256
       → outcome r m ≡ carry area1 (matrix_plan (family_of s.microcode) s (table_in matrix_area s.counts l.matrices) f d 0) s l.matrices → ApplyAre c d s l r (with12 l (m, l.viewports))
   unfolding act_is acted
   apply-matrix f m e g h = joined.joined-matrix family_of limit p f d 0 r m h ∙ rw (e, g)
 
-  pub apply-force : (m : List Float) → c.op ≡ Force
+  pub apply-force : (m : List Float) → op_of c.op ≡ Ok Force
       → outcome r m ≡ carry area1 (force_plan s (table_in matrix_area s.counts l.matrices) d 0) s l.matrices → ApplyAre c d s l r (with12 l (m, l.viewports))
   unfolding act_is acted
   apply-force m e h = joined.joined-force family_of limit p d 0 r m h ∙ rw e
 
-  pub apply-pop : (m : List Float) → c.op ≡ Pop
+  pub apply-pop : (m : List Float) → op_of c.op ≡ Ok Pop
       → outcome r m ≡ carry area1 (pop_plan s (table_in matrix_area s.counts l.matrices) c.args.a) s l.matrices → ApplyAre c d s l r (with12 l (m, l.viewports))
   unfolding act_is acted
   apply-pop m e h = joined.joined-pop family_of limit p c.args.a r m h ∙ rw e
 
-  pub apply-viewport : (v : List Float) → c.op ≡ Viewport
+  pub apply-viewport : (v : List Float) → op_of c.op ≡ Ok Viewport
       → outcome r v ≡ carry area2 (viewport_plan s (table_in viewport_area s.counts l.viewports) d 0) s l.viewports → ApplyAre c d s l r (with12 l (l.matrices, v))
   unfolding act_is acted
   apply-viewport v e h = joined.joined-viewport family_of limit p d 0 r v h ∙ rw e
 
   -- ---- those on vertices and triangles
 
-  pub apply-load : (x : LoadAreas) → c.op ≡ Load
+  pub apply-load : (x : LoadAreas) → op_of c.op ≡ Ok Load
       → outcome r x ≡ load_means s c.args.a c.args.b d 0 (joined.load_part l) → ApplyAre c d s l r (joined.with_load l x)
   unfolding act_is acted
   apply-load x e h = joined.joined-load family_of limit p c.args.a c.args.b d 0 r x h ∙ rw e
 
-  pub apply-modify : (x : List Float × List Float × List ℕ) → c.op ≡ Modify
+  pub apply-modify : (x : List Float × List Float × List ℕ) → op_of c.op ≡ Ok Modify
       → let y : List Float × List Float × List ℕ = (l.scales, l.floats, l.words) in
       outcome r x ≡ modify_means s c.args.a c.args.b c.args.c y
       → ApplyAre c d s l r (joined.with37 l x)
   unfolding act_is acted
   apply-modify x e h = joined.joined-modify family_of limit p c.args.a c.args.b c.args.c r x h ∙ rw e
 
-  pub apply-draw : (x : List ℕ × List ℕ) → c.op ≡ Draw
+  pub apply-draw : (x : List ℕ × List ℕ) → op_of c.op ≡ Ok Draw
       → let y : List ℕ × List ℕ = (l.drawing.indices, l.drawing.runs) in
       outcome r x ≡ draw_means s c.args.a c.args.b c.args.c (c.args.d ∷ c.args.e ∷ c.args.f ∷ c.args.g ∷ []) y
       → ApplyAre c d s l r (joined.with89 l x)
   unfolding act_is acted
   apply-draw x e h = joined.joined-draw family_of limit p _ _ _ _ _ _ _ r x h ∙ rw e
 
-  pub apply-ink : c.op ≡ Ink
+  pub apply-ink : op_of c.op ≡ Ok Ink
       → outcome r tt ≡ carry nothing (ink_plan s (row_table s.counts.rows l.floats l.words) (table_in index_area s.counts l.drawing.indices) c.args.a) s tt → ApplyAre c d s l r l
   unfolding act_is acted
   apply-ink e h = joined.joined-ink family_of limit p c.args.a r h ∙ rw e
 
 -- tampered with, and nothing else
-pub apply-poked : (c : Call) (d : List ℕ) (s t : State) (l : Areas) → c.op ≡ Poke → t ≡ poked_state s c.args.a c.args.b c.args.c → ApplyAre c d s l (record { state = t; answer = Done }) l
+pub apply-poked : (c : Call) (d : List ℕ) (s t : State) (l : Areas) → op_of c.op ≡ Ok Poke → t ≡ poked_state s c.args.a c.args.b c.args.c → ApplyAre c d s l (record { state = t; answer = Done }) l
 unfolding act_is acted
 apply-poked c d s t l e h = rw (e, h)
 
@@ -149,24 +157,16 @@ pub apply-rest : (c : Call) (d : List ℕ) (s : State) (l : Areas) → act_of c 
 unfolding acted
 apply-rest c d s l e = rw e
 
--- the ops that are the driver's own
+-- the ops that are the driver's own, and what is none
 module _ (c : Call) (d : List ℕ) where
-  pub lend-rests : c.op ≡ Lend → act_of c d ≡ rests
+  pub own-rests : (o : Op) → op_of c.op ≡ Ok o → (o ≡ Lend) ⊎ ((o ≡ Mark) ⊎ (o ≡ Write)) → act_of c d ≡ rests
   unfolding act_is
-  lend-rests e = rw e
+  own-rests o e (inl f) = rw (e, f)
+  own-rests o e (inr (inl f)) = rw (e, f)
+  own-rests o e (inr (inr f)) = rw (e, f)
 
-  pub mark-rests : c.op ≡ Mark → act_of c d ≡ rests
-  unfolding act_is
-  mark-rests e = rw e
-
-  pub write-rests : c.op ≡ Write → act_of c d ≡ rests
-  unfolding act_is
-  write-rests e = rw e
-
-  pub own-rests : (c.op ≡ Lend) ⊎ ((c.op ≡ Mark) ⊎ (c.op ≡ Write)) → act_of c d ≡ rests
-  own-rests (inl e) = lend-rests e
-  own-rests (inr (inl e)) = mark-rests e
-  own-rests (inr (inr e)) = write-rests e
+  pub none-rests : (x : Cut) → op_of c.op ≡ Err x → act_of c d ≡ rests
+  none-rests x e = rw e
 
 -- ---- what is lent
 

@@ -6,7 +6,7 @@ use lib.ListN.{replicate}
 use Rattle.numbers.specs.Choice.{pick}
 use Rattle.sequence.specs.Sequence.{Command, load, draw}
 use Rattle.trace.specs.Header.{is_second, header_size, first_length, lengths_of}
-use Rattle.trace.specs.Script.{size_of, data_of, read_as, call_at}
+use Rattle.trace.specs.Script.{size_of, data_of, call_of, call_at}
 use Rattle.trace.specs.Shapes.{op_of}
 use Rattle.player.specs.Ops.{act_is}
 use Rattle.player.specs.Replay.{acts_from, Sends}
@@ -37,17 +37,17 @@ commands = load 0 1 (replicate 16 0) 0 ∷ draw 0 0 0 7 0 0 0 ∷ []
 
 -- the two commands are what it sends
 pub two-sent : Sends script commands
-unfolding is_second header_size acts_from call_at read_as op_of size_of data_of act_is pick
+unfolding is_second header_size acts_from call_at call_of op_of size_of data_of act_is pick
 two-sent = refl
 
 -- and with a draw behind them that is cut short
 pub cut-unsent : Sends (script ++ (0x10 ∷ word 0)) commands
-unfolding is_second header_size acts_from call_at read_as op_of size_of data_of act_is pick
+unfolding is_second header_size acts_from call_at call_of op_of size_of data_of act_is pick
 cut-unsent = refl
 
 -- behind GST2 they are the same two
 pub second-sent : Sends second commands
-unfolding is_second header_size acts_from call_at read_as op_of size_of data_of act_is pick
+unfolding is_second header_size acts_from call_at call_of op_of size_of data_of act_is pick
 second-sent = refl
 
 -- and the areas have the same lengths

@@ -9,7 +9,7 @@ use lib.Seq.{take-length, drop-length}
 use lib.Dec.{eqb, ltb}
 use lib.IntN.{pos}
 use lib.Ieee.{Float}
-use borrow.Author.Tests.{eqb-true}
+use borrow.Author.Tests.{eqb-true, ne_eqb}
 use Rattle.std.specs.Prelude.{Result, Ok, Err}
 use Rattle.numbers.specs.Choice.{pick}
 use Rattle.stage.specs.declared.State.{State}
@@ -23,12 +23,9 @@ use Rattle.trace.specs.declared.script.Call.{Call}
 use Rattle.trace.specs.Acts.{length_list, lent_after, written_to}
 use Rattle.trace.specs.Header.{header_size, lengths_of}
 use Rattle.trace.specs.declared.ops.Cut.{Cut}
-use Rattle.trace.specs.declared.ops.Op.TheVariants.{Lend, Mark, Write}
 use Rattle.trace.specs.Script.{call_at, read_or}
-use Rattle.trace.specs.Shapes.{number_of}
-use Rattle.trace.proofs.Shapes.{same, other}
-use Rattle.player.proofs.Applied.{lend-rests, mark-rests, write-rests}
-use Rattle.player.specs.Ops.{Act, opens, sends, pokes, rests, stage, acted, act_of, lesser, firsts, behind, lend_by, written_by, step_by}
+use Rattle.trace.specs.Shapes.{op_of}
+use Rattle.player.specs.Ops.{Act, opens, sends, pokes, rests, stage, acted, act_is, act_of, lesser, firsts, behind, lend_by, written_by, step_by}
 use Rattle.player.specs.Play.{port_of, lengths_in, data_of, play_from}
 use Rattle.player.specs.Replay.{seven, made, acts_from, Plain, after_acts, ReplayRuns, ReplayActs}
 
@@ -104,12 +101,12 @@ behind-is l x =
     }
 
 -- an op that is no write leaves what is not lent
-unwritten : (c : Call) (l : Areas) → eqb (number_of c.op) 0x23 ≡ false → written_by c l ≡ l
+unwritten : (c : Call) (l : Areas) → eqb c.op 0x23 ≡ false → written_by c l ≡ l
 unfolding written_to pick
 unwritten c l e = rw e
 
 -- AN OP OVER ALL OF EACH AREA, but for a write, is its act: answer, state and areas
-pub whole-step : (c : Call) (d : List ℕ) (p : Port) → (c.op ≡ Write → ⊥) → step_by c d (sizes p.areas) p ≡ acted (act_of c d) p
+pub whole-step : (c : Call) (d : List ℕ) (p : Port) → (c.op ≡ 0x23 → ⊥) → step_by c d (sizes p.areas) p ≡ acted (act_of c d) p
 unfolding step_by lend_by
 whole-step c d p h = ap written (ap by (lesser-is l) ∙ ap over (firsts-is l) ∙ back) ∙ kept
   where
@@ -135,7 +132,7 @@ whole-step c d p h = ap written (ap by (lesser-is l) ∙ ap over (firsts-is l) �
     written o = record { state = o.state; number = o.number; values = o.values; areas = written_by c o.areas }
 
     kept : written (on l) ≡ on l
-    kept = λ i. record { state = (on l).state; number = (on l).number; values = (on l).values; areas = unwritten c (on l).areas (other c.op Write h) i }
+    kept = λ i. record { state = (on l).state; number = (on l).number; values = (on l).values; areas = unwritten c (on l).areas (ne_eqb c.op 0x23 h) i }
 
 -- ---- no act changes a length
 
@@ -195,8 +192,21 @@ sizes-acted rests p = refl
 
 -- ---- the driver's own ops
 
+module _ (c : Call) (d : List ℕ) where
+  lend-rests : c.op ≡ 0x20 → act_of c d ≡ rests
+  unfolding op_of act_is pick
+  lend-rests e = rw e
+
+  mark-rests : c.op ≡ 0x21 → act_of c d ≡ rests
+  unfolding op_of act_is pick
+  mark-rests e = rw e
+
+  write-rests : c.op ≡ 0x23 → act_of c d ≡ rests
+  unfolding op_of act_is pick
+  write-rests e = rw e
+
 -- an op that is no lend leaves what is lent
-unlent : (c : Call) (n : Lengths) → eqb (number_of c.op) 0x20 ≡ false → lengths_in (lent_after c (length_list n)) ≡ n
+unlent : (c : Call) (n : Lengths) → eqb c.op 0x20 ≡ false → lengths_in (lent_after c (length_list n)) ≡ n
 unfolding lent_after pick
 unlent c n e = rw e
 
@@ -223,15 +233,15 @@ act_port a p = port_of (acted a p).state (acted a p).areas
 
 module _ (c : Call) (d : List ℕ) (n : Lengths) (p : Port) (e : n ≡ sizes p.areas) where
   -- an op that is no write leaves what its act leaves
-  by-act : (c.op ≡ Write → ⊥) → port_after c d n p ≡ act_port (act_of c d) p
+  by-act : (c.op ≡ 0x23 → ⊥) → port_after c d n p ≡ act_port (act_of c d) p
   by-act h =
       let o : step_by c d n p ≡ acted (act_of c d) p = ap (λ (k : Lengths). step_by c d k p) e ∙ whole-step c d p h in
       λ i. port_of (o i).state (o i).areas
 
   -- a mark leaves all as it is
-  by-mark : c.op ≡ Mark → port_after c d n p ≡ p
+  by-mark : c.op ≡ 0x21 → port_after c d n p ≡ p
   unfolding acted
-  by-mark h = by-act (λ z. omega (arith, ap number_of h, ap number_of z)) ∙ ap (λ (a : Act). act_port a p) (mark-rests c d h)
+  by-mark h = by-act (λ z. omega (arith, h, z)) ∙ ap (λ (a : Act). act_port a p) (mark-rests c d h)
 
 -- ops of which n at most, from a place on, with all of each area lent, leave what their acts leave
 abbrev ActsLeft : ℕ → List ℕ → Lengths → Type 0
@@ -249,23 +259,23 @@ one_more n s lent f at p e h = there (ltb at (length s)) h
     act c = act_of c (data_of s c)
 
     acts : Call → List Act
-    acts c = pick (eqb (number_of c.op) 0x21) (later c) (act c ∷ later c)
+    acts c = pick (eqb c.op 0x21) (later c) (act c ∷ later c)
 
     -- what is left behind an op
     left : Call → Port
     left c = play_from n s c.to (lengths_in (lent_after c (length_list lent))) (port_after c (data_of s c) lent p)
 
     -- where the op leaves q, and what is lent
-    next : (c : Call) (q : Port) → (c.op ≡ Lend → ⊥) → port_after c (data_of s c) lent p ≡ q → sizes q.areas ≡ sizes p.areas → Plain (later c) → left c ≡ after_acts (later c) q
+    next : (c : Call) (q : Port) → (c.op ≡ 0x20 → ⊥) → port_after c (data_of s c) lent p ≡ q → sizes q.areas ≡ sizes p.areas → Plain (later c) → left c ≡ after_acts (later c) q
     next c q g o z k =
-        let u : lengths_in (lent_after c (length_list lent)) ≡ lent = unlent c lent (other c.op Lend g) in
+        let u : lengths_in (lent_after c (length_list lent)) ≡ lent = unlent c lent (ne_eqb c.op 0x20 g) in
         (λ i. play_from n s c.to (u i) (o i)) ∙ f c.to q (e ∙ sym z) k
 
     -- an op, a mark or not
-    whole : (c : Call) (b : Bool) → eqb (number_of c.op) 0x21 ≡ b → Plain (pick b (later c) (act c ∷ later c)) → left c ≡ after_acts (pick b (later c) (act c ∷ later c)) p
+    whole : (c : Call) (b : Bool) → eqb c.op 0x21 ≡ b → Plain (pick b (later c) (act c ∷ later c)) → left c ≡ after_acts (pick b (later c) (act c ∷ later c)) p
     whole c true m k =
-        let g : number_of c.op ≡ 0x21 = eqb-true (number_of c.op) 0x21 m in
-        next c p (λ z. omega (arith, g, ap number_of z)) (by-mark c (data_of s c) lent p e (same c.op Mark g)) refl k
+        let g = eqb-true c.op 0x21 m in
+        next c p (λ z. omega (arith, g, z)) (by-mark c (data_of s c) lent p e g) refl k
     whole c false m k =
         let d = data_of s c in
         let w = awake (act c) (later c) k in
@@ -273,7 +283,7 @@ one_more n s lent f at p e h = there (ltb at (length s)) h
 
     -- an op, read or not
     read : (r : Result Call Cut) → Plain (read_or [] acts r) → read_or p left r ≡ after_acts (read_or [] acts r) p
-    read (Ok c) k = whole c (eqb (number_of c.op) 0x21) refl k
+    read (Ok c) k = whole c (eqb c.op 0x21) refl k
     read (Err x) k = refl
 
     there : (b : Bool) → Plain (pick b (read_or [] acts (call_at s at)) []) → pick b (read_or p left (call_at s at)) p ≡ after_acts (pick b (read_or [] acts (call_at s at)) []) p

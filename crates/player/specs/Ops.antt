@@ -17,6 +17,8 @@ use Rattle.trace.specs.declared.ops.Op.{Op}
 use Rattle.trace.specs.declared.ops.Op.TheVariants.{Open, Matrix, Force, Pop, Geom, Viewport, Texture, Fog, Lightnum, Light, Lookat, Load, Cull, Depth, Modify, Draw, Ucode, Ink, Explain, Lend, Mark, Poke, Write}
 use Rattle.player.specs.declared.apply.Areas.{Areas as Slices}
 use Rattle.trace.specs.Acts.{written_to}
+use Rattle.trace.specs.Script.{read_or}
+use Rattle.trace.specs.Shapes.{op_of}
 use Rattle.player.specs.Acts.{poked_state}
 
 -- the stage: F3DEX2's flags and 256 slots
@@ -29,7 +31,7 @@ pub data Act : Type 0 where
   sends : Command → Act
   -- field, index, value
   pokes : ℕ → ℕ → ℕ → Act
-  -- lend and write, which the driver does by itself, and mark
+  -- lend and write, which the driver does by itself, mark, and what is no op
   rests : Act
 
 -- done with the state s, and no area changed
@@ -76,9 +78,9 @@ act_is Lend x d = rests
 act_is Mark x d = rests
 act_is Write x d = rests
 
--- a call with its data
+-- a call with its data, by its number: where no op has that, it rests
 abbrev pub act_of : Call → List ℕ → Act
-act_of c d = act_is c.op c.args d
+act_of c d = read_or rests (λ o. act_is o c.args d) (op_of c.op)
 
 -- ---- what is lent
 

@@ -8,7 +8,6 @@ use Rattle.trace.specs.declared.rooms.Lengths.{Lengths}
 use Rattle.trace.specs.Header.{header_size, lengths_of}
 use Rattle.trace.specs.declared.script.Call.{Call}
 use Rattle.trace.specs.Script.{call_at, read_or}
-use Rattle.trace.specs.Shapes.{number_of}
 use Rattle.player.specs.Ops.{Act, opens, sends, pokes, rests, stage, acted, act_of, areas_of}
 use Rattle.player.specs.Play.{port_of, data_of, played}
 
@@ -37,7 +36,7 @@ acts_from zero s at = []
 acts_from (suc n) s at =
     let acts : Call → List Act =
     λ c. let later = acts_from n s c.to in
-    pick (eqb (number_of c.op) 0x21) later (act_of c (data_of s c) ∷ later)
+    pick (eqb c.op 0x21) later (act_of c (data_of s c) ∷ later)
     in
     pick (ltb at (length s)) (read_or [] acts (call_at s at)) []
 

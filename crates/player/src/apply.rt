@@ -87,8 +87,14 @@ fn apply(
 ) -> Answered
     ensures { outcome result (areas_of matrices.new viewports.new scales.new lights.new lookats.new fogs.new floats.new words.new indices.new runs.new) ≡ acted (act_of c «data».now) (record { state = state; areas = areas_of matrices.old viewports.old scales.old lights.old lookats.old fogs.old floats.old words.old indices.old runs.old }) }
 {
+    let Ok(op) = Op::try_from(c.op) else {
+        return Answered {
+            state,
+            answer: Answer::Done,
+        };
+    };
     let x = c.args;
-    match c.op {
+    match op {
         Op::Open => State::opening(matrices, viewports),
         Op::Matrix => state.matrix(script::octet(x.a), data, 0, matrices),
         Op::Force => state.force_matrix(data, 0, matrices),

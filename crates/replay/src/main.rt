@@ -1,7 +1,7 @@
 // Replays a trace from standard input over the stage: a line for each op, and at the end the dump.
 #![tactic(auto)]
 
-ghost use Rattle.std.specs.Prelude.{◌≡◌, ◌≤◌, length, IfOk};
+ghost use Rattle.std.specs.Prelude.{◌≡◌, ◌≤◌, length};
 ghost use Rattle.trace.specs.Header.{header_size, lengths_of, Within};
 ghost use Rattle.player.specs.Ops.{held, SameSlices};
 ghost use Rattle.player.specs.Play.{port_of, played};
@@ -11,7 +11,6 @@ use dump::show;
 use player::apply::Areas;
 use stage::State;
 use std::io;
-use std::io::Read;
 use trace::ops::Cut;
 use trace::rooms::Lengths;
 
@@ -43,7 +42,7 @@ fn play(
         };
         g = player::apply::step(g.state, c, &s[c.from..c.to], lent, areas);
         lent = trace::act::lent_after(lent, c);
-        told = told.and_then(|()| show::answered(out, i, c.op as u8, g.answer, g.state.counts));
+        told = told.and_then(|()| show::answered(out, i, c.op, g.answer, g.state.counts));
         at = c.to;
         i = i + 1;
     }
@@ -122,24 +121,8 @@ fn judge(out: &impl Print, err: &impl Print, s: &[u8]) -> io::Result<()> {
     replay(out, err, s, own)
 }
 
-// Reads until the end of the input, or until there is no more room, and answers how many bytes it read: the library reads so far only into
-// a Vec.
-fn read_full(from: &mut impl Read, bytes: &mut [u8]) -> io::Result<usize>
-    ensures { IfOk result (λ n. n ≤ length bytes.new) }
-{
-    let mut n = 0;
-    while n < bytes.len() {
-        let got = from.read(&mut bytes[n..])?;
-        if got == 0 {
-            break;
-        }
-        n = n + got;
-    }
-    Ok(n)
-}
-
 fn main(rt: HostRuntime) -> io::Result<()> {
     let mut bytes = [0u8; trace::rooms::SCRIPT + 1];
-    let n = read_full(&mut rt.stdin(), &mut bytes)?;
+    let n = input::read_full(&mut rt.stdin(), &mut bytes)?;
     judge(&rt, &rt.stderr(), &bytes[..n])
 }

@@ -1,4 +1,3 @@
 pub mod Lending
 pub mod Reading
 pub mod Serving
-pub mod Shapes

@@ -9,10 +9,11 @@ use lib.Seq.{length-take-le, take_all}
 use Rattle.numbers.specs.Choice.{pick}
 use Rattle.std.specs.Prelude.{Result, Ok, Err}
 use Rattle.trace.specs.declared.ops.Op.{Op}
+use Rattle.trace.specs.declared.ops.Shape.{Shape}
 use Rattle.trace.specs.declared.ops.Cut.{Cut}
 use Rattle.trace.specs.declared.ops.Cut.TheVariants.{Short}
-use Rattle.trace.specs.Shapes.{op_of, shape_of}
-use Rattle.trace.specs.Script.{args_of, size_of, data_of, whole_of, read_as, call_at}
+use Rattle.trace.specs.Shapes.{op_of}
+use Rattle.trace.specs.Script.{args_of, size_of, data_of, whole_of, call_of, read_as, call_at}
 
 pub front : {A : Type 0} (n : ℕ) (l : List A) → n ≤ length l → n ≡ length (take n l)
 front n l h = sym (length-take-le n l h)
@@ -26,21 +27,21 @@ pub known : (s : List ℕ) (at : ℕ) (r : Result Op Cut) → r ≡ op_of (get_o
 unfolding call_at
 known s at r e = ap (read_as s at) e
 
-module _ (o : Op) (s : List ℕ) (at : ℕ) where
+module _ (h : Shape) (s : List ℕ) (at : ℕ) where
   abbrev rest : List ℕ
   rest = drop (at + 1) s
 
-  pub short-words : length rest < size_of (shape_of o) → Err Short ≡ read_as s at (Ok o)
-  unfolding read_as pick size_of
-  short-words f = rw (lt-leb (size_of (shape_of o)) (length rest) f)
+  pub short-words : length rest < size_of h → Err Short ≡ call_of h s at
+  unfolding call_of pick size_of
+  short-words f = rw (lt-leb (size_of h) (length rest) f)
 
-  pub short-data : size_of (shape_of o) ≤ length rest → length rest - size_of (shape_of o) < data_of (shape_of o) rest → Err Short ≡ read_as s at (Ok o)
-  unfolding read_as pick size_of data_of
-  short-data f g = rw (le-leb (size_of (shape_of o)) (length rest) f, lt-leb (data_of (shape_of o) rest) (length rest - size_of (shape_of o)) g)
+  pub short-data : size_of h ≤ length rest → length rest - size_of h < data_of h rest → Err Short ≡ call_of h s at
+  unfolding call_of pick size_of data_of
+  short-data f g = rw (le-leb (size_of h) (length rest) f, lt-leb (data_of h rest) (length rest - size_of h) g)
 
   pub all_there :
-      size_of (shape_of o) ≤ length rest →
-      data_of (shape_of o) rest ≤ length rest - size_of (shape_of o) →
-      Ok (whole_of o (args_of rest) (at + 1 + size_of (shape_of o)) (data_of (shape_of o) rest)) ≡ read_as s at (Ok o)
-  unfolding read_as pick size_of data_of
-  all_there f g = rw (le-leb (size_of (shape_of o)) (length rest) f, le-leb (data_of (shape_of o) rest) (length rest - size_of (shape_of o)) g)
+      size_of h ≤ length rest →
+      data_of h rest ≤ length rest - size_of h →
+      Ok (whole_of (get_or s at 0) (args_of rest) (at + 1 + size_of h) (data_of h rest)) ≡ call_of h s at
+  unfolding call_of pick size_of data_of
+  all_there f g = rw (le-leb (size_of h) (length rest) f, le-leb (data_of h rest) (length rest - size_of h) g)

@@ -4,7 +4,6 @@ use Rattle.areas.specs.Area.{put}
 use Rattle.numbers.specs.Choice.{pick}
 use Rattle.trace.specs.declared.rooms.Lengths.{Lengths}
 use Rattle.trace.specs.declared.script.Call.{Call}
-use Rattle.trace.specs.Shapes.{number_of}
 
 -- the ten lengths by their areas' numbers
 abbrev pub length_list : Lengths → List ℕ
@@ -23,8 +22,8 @@ length_list l =
 
 -- the lengths lent after an op
 unfoldable pub lent_after : Call → List ℕ → List ℕ
-lent_after c l = pick (eqb (number_of c.op) 32) (set l c.args.a c.args.b) l
+lent_after c l = pick (eqb c.op 32) (set l c.args.a c.args.b) l
 
 -- the numbers of an area after an op: `write` puts the number v there, where its place lies in the area
 unfoldable pub written_to : {A : Type 0} → ℕ → Call → A → List A → List A
-written_to k c v l = pick (eqb (number_of c.op) 35 && eqb c.args.a k) (put l c.args.b (v ∷ [])) l
+written_to k c v l = pick (eqb c.op 35 && eqb c.args.a k) (put l c.args.b (v ∷ [])) l

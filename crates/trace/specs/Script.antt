@@ -1,5 +1,6 @@
 -- How an op is read from a script. Definitions only.
 use Rattle.std.specs.Prelude.{ℕ, ◌+◌, ◌*◌, ◌-◌, ◌≤◌, ◌<◌, List, length, drop, get_or, leb, Result, Ok, Err}
+pub use Rattle.input.specs.Words.{word_at}
 use Rattle.numbers.specs.Choice.{pick}
 use Rattle.trace.specs.declared.ops.Op.{Op}
 use Rattle.trace.specs.declared.ops.Cut.{Cut}
@@ -8,10 +9,6 @@ use Rattle.trace.specs.declared.ops.Shape.{Shape}
 use Rattle.trace.specs.declared.script.Args.{Args}
 use Rattle.trace.specs.declared.script.Call.{Call}
 use Rattle.trace.specs.Shapes.{op_of, shape_of}
-
--- word k of the bytes, of 32 bits, low byte first, with 0 for a byte that lies past the end
-abbrev pub word_at : List ℕ → ℕ → ℕ
-word_at s k = get_or s (k * 4) 0 + get_or s (k * 4 + 1) 0 * 256 + get_or s (k * 4 + 2) 0 * 65536 + get_or s (k * 4 + 3) 0 * 16777216
 
 -- the first seven words
 abbrev pub args_of : List ℕ → Args
@@ -35,26 +32,29 @@ unfoldable pub data_of : Shape → List ℕ → ℕ
 data_of h s = pick h.bytes (word_at s h.arguments) 0
 
 -- an op with m bytes of data from a place on
-abbrev pub whole_of : Op → Args → ℕ → ℕ → Call
+abbrev pub whole_of : ℕ → Args → ℕ → ℕ → Call
 whole_of o x at m = record { op = o; args = x; from = at; to = at + m }
 
--- the op at a place: none where the script ends before its words or its data do
-unfoldable pub read_as : List ℕ → ℕ → Result Op Cut → Result Call Cut
-read_as s at (Err e) = Err e
-read_as s at (Ok o) =
-    let h = shape_of o in
+-- the op at a place, of a given shape: none where the script ends before its words or its data do
+unfoldable pub call_of : Shape → List ℕ → ℕ → Result Call Cut
+call_of h s at =
     let t = drop (at + 1) s in
     pick (leb (size_of h) (length t))
-    (pick (leb (data_of h t) (length t - size_of h)) (Ok (whole_of o (args_of t) (at + 1 + size_of h) (data_of h t))) (Err Short))
+    (pick (leb (data_of h t) (length t - size_of h)) (Ok (whole_of (get_or s at 0) (args_of t) (at + 1 + size_of h) (data_of h t))) (Err Short))
     (Err Short)
 
--- and none where no op has the number that stands there
+-- of the shape of an op, if there is one
+abbrev pub read_as : List ℕ → ℕ → Result Op Cut → Result Call Cut
+read_as s at (Ok o) = call_of (shape_of o) s at
+read_as s at (Err e) = Err e
+
+-- and of that which its number says: none where no op has the number
 unfoldable pub call_at : List ℕ → ℕ → Result Call Cut
 call_at s at = read_as s at (op_of (get_or s at 0))
 
--- what f makes of the op that is read, and x where none is
-abbrev pub read_or : {A : Type 0} → A → (Call → A) → Result Call Cut → A
-read_or x f (Ok c) = f c
+-- what f makes of what is read, and x where nothing is
+abbrev pub read_or : {A B : Type 0} → B → (A → B) → Result A Cut → B
+read_or x f (Ok a) = f a
 read_or x f (Err e) = x
 
 -- the next op stands behind this one, in a script of n bytes, and the data in front of it

@@ -3,7 +3,6 @@ ghost use Rattle.std.specs.Prelude.{◌≡◌, ◌&&◌, [], ◌∷◌, ◌%◌,
 ghost use Rattle.areas.specs.Area.{put};
 ghost use Rattle.numbers.specs.Choice.{pick};
 ghost use Rattle.numbers.specs.Ratio.{signed};
-ghost use Rattle.trace.specs.Shapes.{number_of};
 ghost use Rattle.trace.specs.Acts.{length_list, lent_after, written_to};
 
 use crate::ops::Op;
@@ -33,21 +32,22 @@ fn with_length(l: Lengths, area: u32, n: usize) -> Lengths
 }
 
 // The lengths lent after the op c.
-#[tactic(auto, using(crate::proofs::Shapes::other), unfolding(crate::specs::Acts::lent_after, numbers::specs::Choice::pick))]
+#[tactic(auto, unfolding(crate::specs::Acts::lent_after, numbers::specs::Choice::pick))]
 pub fn lent_after(l: Lengths, c: Call) -> Lengths
     ensures { length_list result ≡ lent_after c (length_list l) }
 {
-    match c.op {
-        Op::Lend => with_length(l, c.args.a, c.args.b as usize),
-        _ => l,
+    if c.op == Op::Lend as u8 {
+        with_length(l, c.args.a, c.args.b as usize)
+    } else {
+        l
     }
 }
 
 // Whether the op c writes to an area.
 fn writes_to(c: Call, area: u32) -> bool
-    ensures { result ≡ (eqb (number_of c.op) 35 && eqb c.args.a area) }
+    ensures { result ≡ (eqb c.op 35 && eqb c.args.a area) }
 {
-    c.op == Op::Write && c.args.a == area
+    c.op == Op::Write as u8 && c.args.a == area
 }
 
 // A number written at a place, where it is asked and the place lies in the area.

@@ -1,8 +1,10 @@
 // Reads a script: words, and the op at a place with its arguments and data.
-ghost use Rattle.std.specs.Prelude.{◌≡◌, ◌%◌, ◌<◌, length, get_or, IfOk};
-ghost use Rattle.trace.specs.Script.{word_at, args_of, size_of, data_of, call_at, Ahead};
+ghost use Rattle.std.specs.Prelude.{◌≡◌, ◌%◌, ◌<◌, length, IfOk};
+ghost use Rattle.trace.specs.Script.{args_of, size_of, data_of, call_of, call_at, Ahead};
 
 use crate::ops::{Cut, Op, Shape};
+
+pub use input::word;
 
 // The seven words from an op's first argument on. An op reads as many as it has arguments. Names, no array: commands take them one by one.
 #[derive(Clone, Copy)]
@@ -16,33 +18,14 @@ pub struct Args {
     pub g: u32,
 }
 
-// An op. Its data are the bytes from `from` up to `to`, where the next op stands.
+// An op. Its data are the bytes from `from` up to `to`, where the next op stands. Its number is any, since `step` and `write` take any call:
+// one that names no op does nothing.
 #[derive(Clone, Copy)]
 pub struct Call {
-    pub op: Op,
+    pub op: u8,
     pub args: Args,
     pub from: usize,
     pub to: usize,
-}
-
-// The byte at `at`, 0 past the end.
-fn byte(s: &[u8], at: usize) -> u8
-    ensures { result ≡ get_or s.now at 0 }
-{
-    s.get(at).copied().unwrap_or(0)
-}
-
-// Word k.
-pub fn word(s: &[u8], k: u8) -> u32
-    ensures { result ≡ word_at s.now k }
-{
-    let at = (k as usize) * 4;
-    u32::from_le_bytes([
-        byte(s, at),
-        byte(s, at + 1),
-        byte(s, at + 2),
-        byte(s, at + 3),
-    ])
 }
 
 // The low 8 bits.
@@ -94,14 +77,12 @@ fn data_of(h: Shape, s: &[u8]) -> usize
     }
 }
 
-// The op at `at`.
-pub fn call_at(s: &[u8], at: usize) -> Result<Call, Cut>
+// The op at `at`, of the shape h.
+pub fn call_of(h: Shape, s: &[u8], at: usize) -> Result<Call, Cut>
     requires { at < length s.now }
-    ensures value { result ≡ call_at s.now at }
+    ensures value { result ≡ call_of h s.now at }
     ensures ahead { IfOk result (Ahead at (length s.now)) }
 {
-    let op = Op::try_from(s[at])?;
-    let h = op.shape();
     let rest = &s[at + 1..];
     let size = size_of(h);
     if rest.len() < size {
@@ -113,9 +94,19 @@ pub fn call_at(s: &[u8], at: usize) -> Result<Call, Cut>
     }
     let from = at + 1 + size;
     Ok(Call {
-        op,
+        op: s[at],
         args: args_of(rest),
         from,
         to: from + n,
     })
+}
+
+// The op at `at`, of the shape that its number says.
+pub fn call_at(s: &[u8], at: usize) -> Result<Call, Cut>
+    requires { at < length s.now }
+    ensures value { result ≡ call_at s.now at }
+    ensures ahead { IfOk result (Ahead at (length s.now)) }
+{
+    let op = Op::try_from(s[at])?;
+    call_of(op.shape(), s, at)
 }

@@ -1,11 +1,8 @@
 -- What the arguments of a record mean. Definitions only.
-use Rattle.std.specs.Prelude.{ℕ, ◌+◌, ◌*◌, List, [], ◌∷◌, get_or, Float}
+use Rattle.std.specs.Prelude.{ℕ, ◌+◌, ◌*◌, List, [], ◌∷◌, Float}
+pub use Rattle.input.specs.Words.{word_at}
 use Rattle.std.specs.Float.{binary32, binary64}
 use Rattle.std.specs.Float.Ieee.{of_bits}
-
--- word k, of 32 bits, low byte first, with 0 for a byte that lies past the end
-abbrev pub word_at : List ℕ → ℕ → ℕ
-word_at s k = get_or s (k * 4) 0 + get_or s (k * 4 + 1) 0 * 256 + get_or s (k * 4 + 2) 0 * 65536 + get_or s (k * 4 + 3) 0 * 16777216
 
 -- words 0 and 1, the low one first
 abbrev pub long_at : List ℕ → ℕ

@@ -10,7 +10,6 @@ mod show;
 
 use script::Function;
 use std::io;
-use std::io::Read;
 
 // A script has fewer bytes than this.
 const ROOM: usize = 262144;
@@ -43,25 +42,9 @@ fn run(out: &impl Print, s: &[u8]) -> io::Result<()> {
     Ok(())
 }
 
-// Reads until the end of the input, or until there is no more room, and answers how many bytes it read. Not `io::copy` into
-// the slice: of an input whose bytes are not known beforehand its contract gives no count.
-fn read_full(from: &mut impl Read, bytes: &mut [u8]) -> io::Result<usize>
-    ensures { IfOk result (λ n. n ≤ length bytes.new) }
-{
-    let mut n = 0;
-    while n < bytes.len() {
-        let got = from.read(&mut bytes[n..])?;
-        if got == 0 {
-            break;
-        }
-        n = n + got;
-    }
-    Ok(n)
-}
-
 fn main(rt: HostRuntime) -> io::Result<()> {
     let mut bytes = [0u8; ROOM];
-    let n = read_full(&mut rt.stdin(), &mut bytes)?;
+    let n = input::read_full(&mut rt.stdin(), &mut bytes)?;
     if n == ROOM {
         return show::too_long(&rt);
     }

@@ -1,7 +1,9 @@
 // The script: records one after the other, each a byte that names a function and then its arguments in words of 32 bits,
 // low byte first. A float is given by its bits, an f64 by two words, the low one first.
-ghost use Rattle.std.specs.Prelude.{◌≡◌, ◌%◌, ◌≤◌, get_or};
+ghost use Rattle.std.specs.Prelude.{◌≡◌, ◌%◌, ◌≤◌};
 ghost use Rattle.vectors.specs.Script.{word_at, long_at, float_at, double_at, row_at, matrix_at};
+
+pub use input::word;
 
 // The functions that a script can name.
 #[derive(Clone, Copy)]
@@ -89,26 +91,6 @@ impl Function {
             _ => 1,
         }
     }
-}
-
-// The byte at `at`, 0 past the end.
-fn byte(s: &[u8], at: usize) -> u8
-    ensures { result ≡ get_or s.now at 0 }
-{
-    s.get(at).copied().unwrap_or(0)
-}
-
-// Word k.
-pub fn word(s: &[u8], k: u8) -> u32
-    ensures { result ≡ word_at s.now k }
-{
-    let at = usize::from(k) * 4;
-    u32::from_le_bytes([
-        byte(s, at),
-        byte(s, at + 1),
-        byte(s, at + 2),
-        byte(s, at + 3),
-    ])
 }
 
 // The low 16 bits of word k.
