@@ -3,7 +3,6 @@ ghost use Rattle.std.specs.Prelude.{◌≡◌, ◌%◌, ◌<◌, length, IfOk};
 ghost use Rattle.trace.specs.Script.{args_of, size_of, data_of, call_of, call_at, Ahead};
 
 use crate::ops::{Cut, Op, Shape};
-
 pub use input::word;
 
 // The seven words from an op's first argument on. An op reads as many as it has arguments. Names, no array: commands take them one by one.
