@@ -17,10 +17,10 @@ pub struct Args {
     pub g: u32,
 }
 
-// An op. Its data are the bytes from `from` up to `to`, where the next op stands. Its number is any, since `step` and `write` take any call:
-// one that names no op does nothing.
+// An op. Its data are the bytes from `from` up to `to`, where the next op stands.
 #[derive(Clone, Copy)]
 pub struct Call {
+    // Any number, since `step` and `write` take any call: one that names no op does nothing.
     pub op: u8,
     pub args: Args,
     pub from: usize,
