@@ -35,7 +35,7 @@ pub fn put<T: Copy>(area: &mut [T], at: usize, entry: &[T])
 }
 
 // The `width` numbers from place `from` on written again from `to` on. Asks that both lie in the area: the room of an entry
-// has been judged by then, and a test of each index would cost.
+// has been judged by then, and a test of the range would cost.
 pub fn copy<T: Copy>(area: &mut [T], from: usize, to: usize, width: usize)
     requires { (from + width ≤ length area.old) × (to + width ≤ length area.old) }
     ensures { area.new ≡ put area.old to (part area.old from width) }

@@ -21,10 +21,10 @@ pub final-is : {A : Type 0} (w n : ℕ) (l : List A) → 0 < n → final (entrie
 final-is w n l h = rw (length-entries w n l) (last_entry w n l h)
 
 -- a table with no entry in use has no last one
-pub final-none : (w n : ℕ) (l e : List Float) → n ≡ 0 → length e ≡ w → eqb w 0 ≡ matches eq (final (entries w n l)) e
+pub final-none : (w n : ℕ) (l e : List Float) → n ≡ 0 → eqb (length e) 0 ≡ matches eq (final (entries w n l)) e
 unfolding matches
-final-none w n l [] h we = rw (h, ← we)
-final-none w n l (x ∷ e) h we = rw (h, ← we) (eqb-suc-zero (length e))
+final-none w n l [] h = rw h
+final-none w n l (x ∷ e) h = rw h (eqb-suc-zero (length e))
 
 -- what a comparison at the last entry's place tells
 pub final-same : (w n p : ℕ) (l e : List Float) (r : Bool) → 0 < n → length e ≡ w → p ≡ (n - 1) * w → r ≡ matches eq (part l p (length e)) e → r ≡ matches eq (final (entries w n l)) e

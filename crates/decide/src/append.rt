@@ -1,5 +1,5 @@
 // An entry appended to a table, unless the last entry compares equal to it.
-ghost use Rattle.std.specs.Prelude.{◌≡◌, length, replicate, leb, ◌&&◌, [], ◌∷◌, ◌<◌, ◌≤◌, ◌^◌, Ok, Err};
+ghost use Rattle.std.specs.Prelude.{◌≡◌, length, replicate, leb, ◌&&◌, [], ◌∷◌, ◌≤◌, Ok, Err};
 ghost use Rattle.std.specs.Float.Ieee.{eq};
 ghost use Rattle.numbers.specs.Choice.{pick, unless};
 ghost use Rattle.areas.specs.Area.{entries, matches, room, put};
@@ -10,27 +10,27 @@ ghost use Rattle.decide.specs.Steps.{Ended, ended, Put, put_by};
 
 use areas::widths::{MATRIX_WIDTH, VIEWPORT_WIDTH};
 
-// Whether the last of `used` entries of W numbers compares equal to `entry`. Asks for a width that is a u32, as each table's is.
-pub fn last_is<const W: usize>(floats: &[f32], used: u32, entry: &[f32; W]) -> bool
-    requires { W < 2 ^ 32 }
-    ensures { result ≡ matches eq (final (entries W used floats.now)) entry.now }
+// Whether the last of `used` entries of `width` numbers compares equal to `entry`. Asks that the entry be as wide as the
+// table's, which every caller's is by its type.
+pub fn last_is(floats: &[f32], width: u32, used: u32, entry: &[f32]) -> bool
+    requires { length entry.now ≡ width }
+    ensures { result ≡ matches eq (final (entries width used floats.now)) entry.now }
 {
     if used == 0 {
-        return W == 0;
+        return entry.is_empty();
     }
-    areas::same(floats, areas::place(W as u32, used - 1), entry)
+    areas::same(floats, areas::place(width, used - 1), entry)
 }
 
 // `entry` goes to the end of the table, unless it is there last: the entries in use then, or None where there is no room for it.
-// Asks for such a width, as above.
-pub fn append<const W: usize>(floats: &mut [f32], used: u32, entry: &[f32; W]) -> Option<u32>
-    requires { W < 2 ^ 32 }
-    ensures { record { count = result; area = floats.new } ≡ ended W used entry.now floats.old }
+// Asks for an entry of the table's width, as above.
+pub fn append(floats: &mut [f32], width: u32, used: u32, entry: &[f32]) -> Option<u32>
+    requires { length entry.now ≡ width }
+    ensures { record { count = result; area = floats.new } ≡ ended width used entry.now floats.old }
 {
-    if last_is(floats, used, entry) {
+    if last_is(floats, width, used, entry) {
         return Some(used);
     }
-    let width = W as u32;
     if !crate::judge::holds(used, 1, areas::room_of(width, floats.len())) {
         return None;
     }
@@ -38,17 +38,15 @@ pub fn append<const W: usize>(floats: &mut [f32], used: u32, entry: &[f32; W]) -
     Some(used + 1)
 }
 
-// `entry` appended where `need` says so: the count then. The width is the entry's, by its type. Asks for a count that does not wrap,
-// which the state's judge has seen to, and for a width of 32 bits, as every table's is.
-pub fn put_if<T: Copy, const W: usize>(need: bool, area: &mut [T], used: u32, entry: &[T; W]) -> u32
-    requires used { used ≤ most }
-    requires width { W < 2 ^ 32 }
-    ensures { record { count = result; area = area.new } ≡ put_by W used (only_if need (entry.now ∷ [])) area.old }
+// `entry` appended where `need` says so: the count then. Asks for a count that does not wrap, which the state's judge has seen to.
+pub fn put_if<T: Copy>(need: bool, area: &mut [T], width: u32, used: u32, entry: &[T]) -> u32
+    requires { used ≤ most }
+    ensures { record { count = result; area = area.new } ≡ put_by width used (only_if need (entry.now ∷ [])) area.old }
 {
     if !need {
         return used;
     }
-    areas::put(area, areas::place(W as u32, used), entry);
+    areas::put(area, areas::place(width, used), entry);
     used + 1
 }
 

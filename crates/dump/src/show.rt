@@ -160,7 +160,7 @@ fn number_of(a: Answer) -> u32
     }
 }
 
-// Hands what is returned with the number to `f`.
+// Hands what is returned with the number to `f`, which asks that it may be called.
 fn with_values<R, F: FnOnce(&[u32]) -> R>(a: Answer, f: F) -> R
     requires { F.IsAlwaysCallable f }
     ensures { FnOnceReturnsAt F.FnOnce f (values a) result }

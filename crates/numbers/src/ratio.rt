@@ -51,7 +51,7 @@ impl Whole for u16 {
     }
 }
 
-// D as an f32. The compiler carries out no conversion beforehand, and makes a product of a division only where it sees the
+// D as an f32, which asks that it holds D. The compiler carries out no conversion beforehand, and makes a product of a division only where it sees the
 // divisor, so the divisors of REFERENCE 5 stand here as they are.
 fn divisor<const D: u32>() -> f32
     requires { D ≤ 2 ^ 24 }

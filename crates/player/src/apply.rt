@@ -68,8 +68,8 @@ pub fn unopened() -> Answered
     State::opening(&mut none, &mut nothing)
 }
 
-// Every op, over what is lent of the areas; what `write` stores is left to `step`. Ten slices here and in `lend`, not `Areas`: a slice
-// that is cut from another proves as an argument, and not as a field.
+// Every op, over what is lent of the areas; what `write` stores is left to `step`. Ten slices here and in `lend`, not `Areas`: of a
+// slice cut from a field of a lent struct it is not proved what the field holds once the cut is given back.
 fn apply(
     state: State,
     c: Call,

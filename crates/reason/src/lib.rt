@@ -21,7 +21,8 @@ fn outside(v: u32, code: u8) -> bool
     decide::judge::has_flag(v, u32::from(code))
 }
 
-// The first slot from `first` on, before `end`, whose code lacks the bit of value `v`, or none.
+// The first slot from `first` on, before `end`, whose code lacks the bit of value `v`, or none. Asks for an end among the slots, since
+// codes beyond them are not there.
 fn first_inside(code: &[u8; 256], v: u32, first: u32, end: u32) -> Option<u32>
     requires { end ≤ 256 }
     ensures { result ≡ find (λ i. not (flag v (get_or code.now i 0))) (slots_from first (end - first)) }

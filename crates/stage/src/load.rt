@@ -210,7 +210,7 @@ impl State {
         let foggy = decide::geometry::is_foggy(family, self.geometry);
         let place = fold::fog::fog_place(fogs, self.counts.fogs, self.fogmul, self.fogoff);
         let matrix = !self.defined
-            & !decide::append::last_is(matrices, self.counts.matrices, &combined);
+            & !decide::append::last_is(matrices, MATRIX_WIDTH, self.counts.matrices, &combined);
         let scale = !fold::scales::scale_is(scales, self.counts.scales, entry);
         let ltop = self.lights.top;
         let light = lit
@@ -291,8 +291,8 @@ impl State {
         let colours = self.lights.colours;
         let ambient = self.lights.ambient;
         let axes = self.lookat.axes;
-        let n1 = decide::append::put_if(d.newmatrix, matrices, c.matrices, &combined);
-        let n3 = decide::append::put_if(d.newscale, scales, c.scales, &entry);
+        let n1 = decide::append::put_if(d.newmatrix, matrices, MATRIX_WIDTH, c.matrices, &combined);
+        let n3 = decide::append::put_if(d.newscale, scales, SCALE_WIDTH, c.scales, &entry);
         let n4 = fold::settle::lights_if(
             d.newlights,
             lights,
@@ -305,7 +305,7 @@ impl State {
         );
         let n5 = fold::settle::lookat_if(d.newlookat, lookats, c.lookats, m, axes);
         let pair = [self.fogmul, self.fogoff];
-        let n6 = decide::append::put_if(d.newfog, fogs, c.fogs, &pair);
+        let n6 = decide::append::put_if(d.newfog, fogs, FOG_WIDTH, c.fogs, &pair);
         c.matrices = n1;
         c.scales = n3;
         c.lights = n4;
@@ -420,7 +420,7 @@ impl State {
         })
     }
 
-    // Load (11): `count` vertices of 16 bytes into the slots from `first` on. Nothing is written before all is judged. It is long since the
+    // Load (11): `count` vertices of 16 bytes into the slots from `first` on. Nothing is written before all is judged. Long, because the
     // columns go out and back one by one, which costs no copy of the state.
     pub fn load(
         mut self,

@@ -199,7 +199,7 @@ impl State {
                 let t = decide::stack::take(family, f, m, &mut stack, p, self.depth);
                 let projection = t.projection;
                 let product = t.product;
-                match decide::append::append(matrices, n, &product) {
+                match decide::append::append(matrices, MATRIX_WIDTH, n, &product) {
                     None => {
                         stack = old;
                         Answer::NoRoom(1)
@@ -233,7 +233,7 @@ impl State {
             Ok(()) => {
                 let m = matrix::math::to_flat(layout::matrix(data, at));
                 let inexact = layout::inexact(data, at);
-                match decide::append::append(matrices, n, &m) {
+                match decide::append::append(matrices, MATRIX_WIDTH, n, &m) {
                     None => Answer::NoRoom(1),
                     Some(used) => {
                         self.combined = m;
@@ -266,7 +266,7 @@ impl State {
                     let stack = self.stack;
                     let p = self.projection;
                     let product = decide::stack::product_of(decide::stack::top_at(&stack, d), p);
-                    match decide::append::append(matrices, n, &product) {
+                    match decide::append::append(matrices, MATRIX_WIDTH, n, &product) {
                         None => Answer::NoRoom(1),
                         Some(used) => {
                             self.depth = d;
@@ -295,7 +295,7 @@ impl State {
             Err(refusal) => refusal,
             Ok(()) => {
                 let entry = viewport_at(data, at);
-                match decide::append::append(viewports, n, &entry) {
+                match decide::append::append(viewports, VIEWPORT_WIDTH, n, &entry) {
                     None => Answer::NoRoom(2),
                     Some(used) => {
                         self.viewport = entry;

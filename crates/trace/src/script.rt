@@ -76,7 +76,7 @@ fn data_of(h: Shape, s: &[u8]) -> usize
     }
 }
 
-// The op at `at`, of the shape h.
+// The op at `at`, of the shape h. Asks for a place in the script, at which the caller's loop stands.
 pub fn call_of(h: Shape, s: &[u8], at: usize) -> Result<Call, Cut>
     requires { at < length s.now }
     ensures value { result ≡ call_of h s.now at }

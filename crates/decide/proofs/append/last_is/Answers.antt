@@ -1,9 +1,10 @@
 use Rattle.decide.proofs.Ends.{final-none, final-same}
+use mathlib.Core.Path.{◌∙◌}
 use borrow.Author.Rules.{rules}
 use Rattle.decide.proofs.append.last_is.Goals as goal
 
 pub returns-then-used-eq0 : goal.returns-then-used-eq0
-returns-then-used-eq0 g c = final-none _ _ _ _ c.if-used-eq0.true c.told-entry
+returns-then-used-eq0 c = c.is_empty.ensures ∙ final-none _ _ _ _ c.if-used-eq0.true
 
 pub returns : goal.returns
-returns g c = final-same _ _ _ _ _ _ (search rules) c.told-entry c.place.ensures c.same.ensures
+returns c = final-same _ _ _ _ _ _ (search rules) c.requires c.place.ensures c.same.ensures

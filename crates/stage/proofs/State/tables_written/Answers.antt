@@ -8,7 +8,7 @@ use Rattle.stage.proofs.Settling.{put_count, put-area}
 use Rattle.stage.proofs.State.tables_written.Goals as goal
 
 pub put_if-n6-requires : goal.put_if-n6-requires
-put_if-n6-requires c = (search rules, (c.requires.0.fogs, search rules))
+put_if-n6-requires c = c.requires.0.fogs
 
 pub shape_of-matrices : goal.shape_of-matrices
 shape_of-matrices c = c.put_if-n1.auto.area
