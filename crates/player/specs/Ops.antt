@@ -15,7 +15,7 @@ use Rattle.trace.specs.declared.script.Args.{Args}
 use Rattle.trace.specs.declared.script.Call.{Call}
 use Rattle.trace.specs.declared.ops.Op.{Op}
 use Rattle.trace.specs.declared.ops.Op.TheVariants.{Open, Matrix, Force, Pop, Geom, Viewport, Texture, Fog, Lightnum, Light, Lookat, Load, Cull, Depth, Modify, Draw, Ucode, Ink, Explain, Lend, Mark, Poke, Write}
-use Rattle.player.specs.declared.apply.Areas.{Areas as Slices}
+use Rattle.trace.specs.declared.rooms.Areas.{Areas as Slices}
 use Rattle.trace.specs.Acts.{written_to}
 use Rattle.trace.specs.Script.{read_or}
 use Rattle.trace.specs.Shapes.{op_of}

@@ -10,24 +10,9 @@ use crate::act;
 use stage::settings::Microcode;
 use stage::{Answer, Answered, State};
 use trace::ops::Op;
-use trace::rooms::Lengths;
+use trace::rooms::{Areas, Lengths};
 use trace::script;
 use trace::script::{Args, Call};
-
-// The ten areas: tables 1 to 6, table 7's f32 and its u32, tables 8 and 9.
-#[derive(Drop)]
-pub struct Areas<'a> {
-    pub matrices: &'a mut [f32],
-    pub viewports: &'a mut [f32],
-    pub scales: &'a mut [f32],
-    pub lights: &'a mut [f32],
-    pub lookats: &'a mut [f32],
-    pub fogs: &'a mut [i16],
-    pub floats: &'a mut [f32],
-    pub words: &'a mut [u32],
-    pub indices: &'a mut [u32],
-    pub runs: &'a mut [u32],
-}
 
 // The low 16 bits, with their sign.
 fn signed(x: u32) -> i16

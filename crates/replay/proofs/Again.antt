@@ -10,7 +10,7 @@ use Rattle.stage.specs.declared.State.{State}
 use Rattle.sequence.specs.Sequence.{Areas}
 use Rattle.trace.specs.declared.rooms.Lengths.{Lengths}
 use Rattle.trace.specs.Header.{lengths_of, Within}
-use Rattle.player.specs.declared.apply.Areas.{Areas as Slices}
+use Rattle.trace.specs.declared.rooms.Areas.{Areas as Slices}
 use Rattle.player.specs.Ops.{firsts, SameSlices}
 use Rattle.player.specs.Play.{port_of, played}
 use Rattle.player.specs.Replay.{seven, made, replayed}

@@ -8,11 +8,10 @@ ghost use Rattle.player.specs.Play.{port_of, played};
 ghost use Rattle.player.specs.Replay.{replayed};
 
 use dump::show;
-use player::apply::Areas;
 use stage::State;
 use std::io;
 use trace::ops::Cut;
-use trace::rooms::Lengths;
+use trace::rooms::{Areas, Lengths};
 
 // Runs the ops of the script over the areas, with a line for each: the state that is left, and whether all lines were written.
 // Once a line is not written there are no more, but the ops are run all the same.
@@ -53,20 +52,7 @@ fn play(
 fn finish(out: &impl Print, s: &[u8], state: State, areas: &Areas<'_>) -> io::Result<()>
     requires { port_of state (held areas.now) ≡ replayed s.now }
 {
-    dump::dump::write(
-        out,
-        state,
-        areas.matrices,
-        areas.viewports,
-        areas.scales,
-        areas.lights,
-        areas.lookats,
-        areas.fogs,
-        areas.floats,
-        areas.words,
-        areas.indices,
-        areas.runs,
-    )
+    dump::dump::write(out, state, areas)
 }
 
 // Makes the areas, each number 7, runs the script over them, and dumps what is left.

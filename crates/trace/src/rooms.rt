@@ -45,3 +45,18 @@ pub struct Lengths {
     pub indices: usize,
     pub runs: usize,
 }
+
+// The ten areas: tables 1 to 6, table 7's f32 and its u32, tables 8 and 9.
+#[derive(Drop)]
+pub struct Areas<'a> {
+    pub matrices: &'a mut [f32],
+    pub viewports: &'a mut [f32],
+    pub scales: &'a mut [f32],
+    pub lights: &'a mut [f32],
+    pub lookats: &'a mut [f32],
+    pub fogs: &'a mut [i16],
+    pub floats: &'a mut [f32],
+    pub words: &'a mut [u32],
+    pub indices: &'a mut [u32],
+    pub runs: &'a mut [u32],
+}
