@@ -1,4 +1,5 @@
-// A lent area: numbers in a slice, read as entries of one width that stand end to end.
+// A lent area: numbers in a slice, read as entries of one width that stand end to end. No Vec: the caller lends it, and the state
+// counts the entries in use.
 #![tactic(auto)]
 
 ghost use Rattle.std.specs.Prelude.{◌≡◌, ℕ, ◌+◌, ◌*◌, ◌≤◌, length};

@@ -6,7 +6,8 @@ ghost use Rattle.change.specs.Steps.{InRange, row_room, comes_to, roomy, change_
 use crate::Change;
 use areas::widths::{FLOAT_WIDTH, WORD_WIDTH};
 
-// What the state has of the slot: whether it is loaded, whether it was drawn since its row was made, and its row.
+// What the state has of the slot: whether it is loaded, whether it was drawn since its row was made, and its row. No Option of the
+// row: past the judge it is read without asking again.
 #[derive(Clone, Copy)]
 pub struct Slot {
     pub loaded: bool,

@@ -58,7 +58,8 @@ pub fn decode(attribute: u32, value: u32) -> Option<Change>
     }
 }
 
-// A slot's screen z after the change: only a depth changes it, and only where there is one.
+// A slot's screen z after the change: only a depth changes it, and only where there is one. The mark goes beside the value, as in
+// the state.
 #[tactic(auto, unfolding(crate::specs::Decoded::depth_after, numbers::specs::Choice::pick))]
 pub fn depth_after(c: Change, deep: bool, z: f64) -> f64
     ensures { result ≡ depth_after c deep z }

@@ -17,7 +17,7 @@ pub struct Family {
     pub prepares: bool,
 }
 
-// The family of the microcode of that number.
+// The family of the microcode of that number: a number is what the state has of it.
 pub fn family_of(microcode: u8) -> Family
     ensures { result ≡ family_of microcode }
 {

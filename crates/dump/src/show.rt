@@ -9,7 +9,7 @@ ghost use Rattle.stage.specs.Answers.{number, values};
 
 use stage::{Answer, Counts};
 use std::io;
-use trace::ops::Op;
+use trace::ops::{Cut, Op};
 
 pub fn text(out: &impl Print, s: &[u8]) -> io::Result<()> {
     out.write_all(s)
@@ -85,6 +85,7 @@ impl Shown for bool {
     }
 }
 
+// An impl for each type, here and below: one for all that print would take in the floats, which go by their bits.
 impl Shown for u8 {
     fn show(self, out: &impl Print) -> io::Result<()> {
         print!(out; " {self}")
@@ -141,7 +142,7 @@ pub(crate) fn row<T: Shown>(out: &impl Print, xs: &[T]) -> io::Result<()> {
     Ok(())
 }
 
-// The number of an answer (docs/REFERENCE.md 3).
+// The number of an answer (docs/REFERENCE.md 3). No From: `Answer` is the stage's.
 fn number_of(a: Answer) -> u32
     ensures { result ≡ number a }
 {
@@ -227,7 +228,7 @@ pub(crate) fn counts(out: &impl Print, c: Counts) -> io::Result<()> {
     row(out, &counts)
 }
 
-// The line of op number i; `mark` shows the counts.
+// The line of op number i; `mark` shows the counts. Of any number, as a call's is.
 pub fn answered(out: &impl Print, i: usize, op: u8, a: Answer, c: Counts) -> io::Result<()> {
     // No command has the number 0 or 0x13; what lies beyond the ops has no name at all.
     let name = match Op::try_from(op) {
@@ -255,7 +256,10 @@ pub fn too_long(err: &impl Print, most: usize) -> io::Result<()> {
 }
 
 // The script stops at op number i, at the byte `at`, which is an op that is cut short, or none.
-pub fn stopped(err: &impl Print, i: usize, at: usize, known: bool) -> io::Result<()> {
-    let why = if known { "cut short" } else { "unknown" };
+pub fn stopped(err: &impl Print, i: usize, at: usize, cut: Cut) -> io::Result<()> {
+    let why = match cut {
+        Cut::Short => "cut short",
+        Cut::Unknown => "unknown",
+    };
     println!(err; "replay: op {i}, at byte {at}, is {why}; it and what follows was not replayed")
 }

@@ -26,6 +26,7 @@ fn line(out: &impl Print, k: usize, slot: Slot) -> io::Result<()> {
     println!(out)
 }
 
+// By an index: eight columns of the state go on together.
 pub(crate) fn lines(out: &impl Print, s: &State) -> io::Result<()> {
     for k in 0..256 {
         let slot = Slot {

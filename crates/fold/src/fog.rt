@@ -6,7 +6,7 @@ ghost use Rattle.fold.specs.Fog.{find};
 
 use areas::widths::FOG_WIDTH;
 
-// The place of the first equal pair of the `used` in use, or `used` where there is none.
+// The place of the first equal pair of the `used` in use, or `used`, where it is appended then: a place in both cases, so no Option.
 pub fn fog_place(fogs: &[i16], used: u32, multiplier: i16, offset: i16) -> u32
     ensures { (result ≡ find (entries fog_width used fogs.now) (multiplier ∷ offset ∷ [])) × (result ≤ used) }
 {

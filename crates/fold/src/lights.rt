@@ -7,7 +7,7 @@ ghost use Rattle.fold.specs.Lights.{light_entry, ambient_entry, light_entries};
 
 use areas::widths::LIGHT_WIDTH;
 
-// Three of the numbers of eight triples. Asks for a place that has them, so that no `Option` is answered, as a slice's `first_chunk` does.
+// Three of the numbers of eight triples. Asks for a place that has them, since a slice's `first_chunk` would answer an Option.
 fn three_of(f: [f32; 24], at: usize) -> [f32; 3]
     requires { at + 3 ≤ 24 }
     ensures { result ≡ three f at }

@@ -1,6 +1,7 @@
 // Lights and lookat axes folded into their tables where they are due: the count then. Both ask for a count that does not
 // wrap, and for at most seven lights, which the state's judge has seen to. An entry is worked out only where it is due, and
-// `put_if` takes one that is there. What the lights need stands in columns of the state: a struct of it would be a copy.
+// `put_if` takes one that is there. The state's own `Lights` stands in a crate above
+// this one, and has what a folding leaves too.
 ghost use Rattle.std.specs.Prelude.{◌≡◌, [], ◌∷◌, ◌≤◌};
 ghost use Rattle.areas.specs.Widths.{most, light_width, lookat_width};
 ghost use Rattle.decide.specs.Append.{only_if};

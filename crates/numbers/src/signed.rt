@@ -1,4 +1,4 @@
-// Halves and bytes read with their sign.
+// Halves and bytes read with their sign. One function for each width, as the library's methods are: these say it by the word `signed`.
 ghost use Rattle.std.specs.Prelude.{◌≡◌};
 ghost use Rattle.numbers.specs.Ratio.{signed};
 

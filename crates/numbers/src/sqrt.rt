@@ -1,5 +1,5 @@
-// The square root of an f32, with no number wider than 32 bits. Worked out digit by digit: the library's `f32::sqrt` is the
-// machine's instruction, which no proof reaches.
+// The square root of an f32, with no number wider than 32 bits. Worked out digit by digit, as docs/REFERENCE.md 19 has it:
+// the library's `f32::sqrt` rests on the machine's instruction.
 ghost use Rattle.std.specs.Prelude.{◌≡◌, ℕ, ◌+◌, ◌*◌, ◌^◌, ◌<◌, ◌≤◌, from_bits};
 ghost use Rattle.std.specs.Float.{binary32};
 ghost use Rattle.numbers.specs.Sqrt.{root_by, rooted, sqrt};
@@ -40,7 +40,8 @@ fn root_of(digits: u32, power: u32) -> u32
     }
 }
 
-// The bits of the root of a number below the normal ones, digits * 2^-149.
+// The bits of the root of a number below the normal ones, digits * 2^-149. It is doubled until it is normal: what is counted is the
+// power, and no index.
 fn root_of_small(bits: u32) -> u32
     requires { (0 < bits) × (bits < 8388608) }
     ensures { (from_bits binary32 result ≡ rooted binary32 (bits * 2 ^ 149)) × (result < 2139095040) }

@@ -33,6 +33,7 @@ fn texture(state: State, a: Args) -> Answered
     )
 }
 
+// The microcode of a number's lowest bit. No From: neither type is this crate's.
 #[tactic(auto, unfolding(numbers::specs::Choice::pick))]
 fn microcode(state: State, number: u32) -> Answered
     ensures { outcome result tt ≡ carry nothing (microcode_plan state (microcode_of number)) state tt }

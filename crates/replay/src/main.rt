@@ -10,11 +10,11 @@ ghost use Rattle.player.specs.Replay.{replayed};
 use dump::show;
 use stage::State;
 use std::io;
-use trace::ops::Cut;
 use trace::rooms::{Areas, Lengths};
 
 // Runs the ops of the script over the areas, with a line for each: the state that is left, and whether all lines were written.
-// Once a line is not written there are no more, but the ops are run all the same.
+// Once a line is not written there are no more, but the ops are run all the same. It goes by places: each op says where the next
+// one stands, and one that is cut ends it.
 fn play(
     out: &impl Print,
     err: &impl Print,
@@ -35,7 +35,7 @@ fn play(
         let c = match trace::script::call_at(s, at) {
             Ok(c) => c,
             Err(cut) => {
-                told = told.and_then(|()| show::stopped(err, i, at, cut == Cut::Short));
+                told = told.and_then(|()| show::stopped(err, i, at, cut));
                 break;
             }
         };

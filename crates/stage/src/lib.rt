@@ -58,6 +58,7 @@ pub struct Lookat {
 
 // All that the commands keep between them. A value under a cleared mark is 0, so that a state is determined. In this
 // order a command takes out the columns that it writes, and where the compiler splits the state the rest costs no copy (docs/SPEED.md).
+// Columns, and a value with a mark beside it where there may be none, here and above: docs/REFERENCE.md 2.1 and 19 fix these fields.
 #[derive(Clone, Copy)]
 pub struct State {
     // The model stack: `depth` matrices of sixteen numbers in use, the last of them the top.
@@ -92,8 +93,8 @@ pub struct State {
     pub unit: u32,
 }
 
-// What a command answers (3). `Done`, `Told` and the explainer's two are number 0; the refusals stand in the order of their
-// numbers, 1 to 10.
+// What a command answers (3). No Result: it is one enum beside the state, by the rules (19). `Done`, `Told` and the explainer's two
+// are number 0; the refusals stand in the order of their numbers, 1 to 10.
 #[derive(Clone, Copy)]
 pub enum Answer {
     Done,
@@ -115,7 +116,7 @@ pub enum Answer {
     BadState,
 }
 
-// What a command hands back.
+// What a command hands back. Each builds it itself: a function that took the state and handed it back would copy it.
 #[derive(Clone, Copy)]
 pub struct Answered {
     pub state: State,

@@ -60,7 +60,8 @@ fn write_at<T: Copy>(area: &mut [T], on: bool, at: usize, value: T)
     }
 }
 
-// The areas of whole numbers after the op c: `write` stores the value's low 16 bits in area 5.
+// The areas of whole numbers after the op c: `write` stores the value's low 16 bits in area 5. Four slices: of ten areas it would
+// have to say that six stay.
 pub fn write(c: Call, fogs: &mut [i16], words: &mut [u32], indices: &mut [u32], runs: &mut [u32])
     ensures fogs_after { fogs.new ≡ written_to 5 c (signed 16 (c.args.c % 65536)) fogs.old }
     ensures words_after { words.new ≡ written_to 7 c c.args.c words.old }

@@ -7,7 +7,7 @@ use crate::rooms;
 use crate::rooms::Lengths;
 use crate::script::word;
 
-// Whether a script begins with GST2.
+// Whether a script begins with GST2: the letters as one word, as the definition has them.
 #[tactic(auto, unfolding(crate::specs::Header::is_second))]
 fn is_second(s: &[u8]) -> bool
     ensures { result ≡ is_second s.now }

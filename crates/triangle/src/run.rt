@@ -7,7 +7,7 @@ ghost use Rattle.triangle.specs.Steps.{six, seen, last_of};
 
 use areas::widths::{COUNT_FIELD, RUN_WIDTH, START_FIELD};
 
-// Cull and unclipped are 0 or 1.
+// Cull and unclipped are 0 or 1, as table 9 has them.
 #[derive(Clone, Copy, PartialEq, Eq)]
 pub struct Settings {
     pub material: u32,

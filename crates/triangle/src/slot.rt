@@ -45,7 +45,7 @@ pub fn sides_of(f: Family, geometry: u32) -> Sides
 }
 
 // The rows x, y, z from place `at` on, the first and the last exchanged where `swap` says so. Asks for room, which a
-// draw has judged before it writes: a test of each index would cost.
+// draw has judged before it writes: a test of each index would cost. Number by number, as a run is.
 pub fn put_corners(indices: &mut [u32], at: usize, swap: bool, x: u32, y: u32, z: u32)
     requires { at + 3 ≤ length indices.old }
     ensures { indices.new ≡ put indices.old at (corners swap x y z) }

@@ -33,7 +33,7 @@ fn step(out: &impl Print, s: &[u8], at: usize) -> io::Result<usize>
     Ok(at + 1 + size)
 }
 
-// Runs the records one after the other.
+// Runs the records one after the other: each says where the next one stands.
 fn run(out: &impl Print, s: &[u8]) -> io::Result<()> {
     let mut at = 0;
     while at < s.len() {

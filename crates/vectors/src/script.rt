@@ -115,7 +115,7 @@ pub fn float(s: &[u8], k: u8) -> f32
     std::num::f32_from_bits_with_nan(word(s, k))
 }
 
-// Words 0 and 1, the low one first.
+// Words 0 and 1, the low one first. The library joins bytes, and no words.
 fn long(s: &[u8]) -> u64
     ensures { result ≡ long_at s.now }
 {

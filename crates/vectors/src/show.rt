@@ -25,7 +25,7 @@ pub fn bits(out: &impl Print, x: u8) -> io::Result<()> {
     print!(out; "{x:02x}")
 }
 
-// Two widths, two functions: a trait over both would be longer than they are.
+// Two widths, two functions, here and below: a trait over both would be longer than they are.
 pub fn single(out: &impl Print, x: f32) -> io::Result<()> {
     if x.is_nan() {
         return out.write_all(b"nan");
