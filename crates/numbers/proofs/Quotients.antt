@@ -94,10 +94,6 @@ div_held f z d h D k =
     ∙ div_by f (round f s n 1) (round f false d 1) s n 1 d (zero-lt-suc 0) D (round_whole f s n h) (round_whole f false d k)
     ∙ ap (round f s n) (one-mul d)
 
--- a literal of whole number d is d as a float
-pub literal_is : (d q : ℕ) (g : ℤ) → T (fits binary32 (fin false (suc q) g)) → suc q * up g * 1 ≡ d * down g → fin false (suc q) g ≡ of_int binary32 (pos d)
-literal_is d q g h v = sym (int_is binary32 (pos d) ∙ round-fix binary32 (fin false (suc q) g) false d 1 (zero-lt-suc 0) h (refl, v))
-
 -- an integer that the format holds, divided by a whole number
 pub div-small : (f : Format) (z : ℤ) (q : ℕ) (g : ℤ) (d : ℕ) → nat_abs z ≤ 2 ^ prec f → 0 < d → suc q * up g ≡ d * down g → div f (of_int f z) (fin false (suc q) g) ≡ of_ratio f z d
 unfolding of_ratio

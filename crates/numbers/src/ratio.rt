@@ -1,7 +1,6 @@
 // Whole numbers as floats, and their quotients by the constants of REFERENCE 5, each rounded once.
 ghost use Rattle.std.specs.Prelude.{◌≡◌, ℤ, ◌^◌, ◌<◌, ◌≤◌, pos, unsigned_abs};
 ghost use Rattle.std.specs.Float.{binary32, binary64};
-ghost use Rattle.std.specs.Float.Ieee.{of_int};
 ghost use Rattle.numbers.specs.Ratio.{of_ratio};
 
 // A whole number that an f32 holds exactly.
@@ -51,31 +50,13 @@ impl Whole for u16 {
     }
 }
 
-// D as an f32, which asks that it holds D. The compiler carries out no conversion beforehand, and makes a product of a division only where it sees the
-// divisor, so the divisors of REFERENCE 5 stand here as they are.
-fn divisor<const D: u32>() -> f32
-    requires { D ≤ 2 ^ 24 }
-    ensures { result ≡ of_int binary32 (pos D) }
-{
-    match D {
-        4 => 4.0,
-        32 => 32.0,
-        127 => 127.0,
-        255 => 255.0,
-        1024 => 1024.0,
-        65536 => 65536.0,
-        2097152 => 2097152.0,
-        _ => D as f32,
-    }
-}
-
 // The number divided by D, which an f32 must hold as it holds the number: then the division alone rounds.
 #[tactic(auto, using(crate::proofs::Quotients::div_held))]
 pub fn by<const D: u32, T: Whole>(x: T) -> f32
     requires { (0 < D) × (D ≤ 2 ^ 24) }
     ensures { result ≡ of_ratio binary32 (T.number x) D }
 {
-    x.to_f32() / divisor::<D>()
+    x.to_f32() / (D as f32)
 }
 
 // Not `by`: an f32 may not hold the number, which is rounded before the division. By a power of two that is the same as one
