@@ -1,5 +1,5 @@
 // A first program over the stage: `main` is a list of commands, each sent by a small function over what is lent, which says
-// the answer and hands the state back. A refusal hands it back as it was.
+// the answer and hands the state back. README shows two of them, with what they lean on. A refusal hands it back as it was.
 #![tactic(auto)]
 
 use stage::{Answer, Answered, State};

@@ -1,5 +1,6 @@
 // What gbi.h lays out in bytes, big-endian, read from a place of a slice. Short data is judged before anything is read,
-// so these ask for the bytes that they read: a test of each would be paid at every vertex.
+// so these ask for the bytes that they read: a test of each would be paid at every vertex. Data is a slice and a place in it, as the
+// commands have it.
 #![tactic(auto)]
 
 ghost use Rattle.std.specs.Prelude.{◌≡◌, ◌+◌, ◌≤◌, ◌<◌, length};

@@ -1,4 +1,4 @@
-// The length of a direction, and what a direction is multiplied by to have length 1.
+// The length of a direction, and what a direction is multiplied by to have length 1. Three numbers, as the definitions have them.
 ghost use Rattle.std.specs.Prelude.{◌≡◌};
 ghost use Rattle.numbers.specs.Length.{squares, length_of, inverse};
 

@@ -27,7 +27,7 @@ pub struct Call {
     pub to: usize,
 }
 
-// The low 8 bits.
+// The low 8 bits. A cast has to fit, so each width says its own remainder, here and below.
 pub fn octet(x: u32) -> u8
     ensures { result ≡ x % 256 }
 {

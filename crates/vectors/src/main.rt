@@ -14,7 +14,7 @@ use std::io;
 // A script has fewer bytes than this.
 const ROOM: usize = 262144;
 
-// Runs the record at the place `at` and answers where the next one starts: at the end where this one cannot be run.
+// Runs the record at the place `at` and answers where the next one starts: at the end, which ends the loop, where this one cannot be run.
 fn step(out: &impl Print, s: &[u8], at: usize) -> io::Result<usize>
     requires { at < length s.now }
     ensures { IfOk result (λ next. (at < next) × (next ≤ length s.now)) }

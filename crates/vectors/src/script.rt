@@ -93,7 +93,7 @@ impl Function {
     }
 }
 
-// The low 16 bits of word k.
+// The low 16 bits of word k. A cast has to fit, so each width says its own remainder, here and below.
 pub fn half(s: &[u8], k: u8) -> u16
     ensures { result ≡ word_at s.now k % 65536 }
 {
