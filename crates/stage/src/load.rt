@@ -4,7 +4,7 @@ ghost use Rattle.areas.specs.Area.{entries};
 ghost use Rattle.areas.specs.Widths.{most, matrix_width, scale_width, fog_width};
 ghost use Rattle.matrix.specs.Math.{rows, laid, times};
 ghost use Rattle.decide.specs.Family.{family_of};
-ghost use Rattle.decide.specs.Steps.{first_short};
+ghost use Rattle.decide.specs.Steps.{first_short, Deep};
 ghost use Rattle.stage.specs.Plan.{outcome, pick};
 ghost use Rattle.stage.specs.With.{folded_lights, folded_lookat};
 ghost use Rattle.stage.specs.Load.{settled, shared_by, load_edits, load_areas, load_means};
@@ -195,7 +195,7 @@ impl State {
         scales: &[f32],
         fogs: &[i16],
     ) -> Settled
-        requires { (1 ≤ self.depth) × (self.depth ≤ 32) × (stack.now ≡ self.stack) }
+        requires { Deep self.depth × (stack.now ≡ self.stack) }
         ensures { result ≡ settled (family_of self.microcode) self (entries matrix_width self.counts.matrices matrices.now) (entries scale_width self.counts.scales scales.now) (entries fog_width self.counts.fogs fogs.now) }
     {
         let family = decide::family::family_of(self.microcode);
