@@ -20,6 +20,8 @@ use vertex::Shared;
 // What a load settles before any row: the combined matrix in force and whether it is appended; the texture scales and
 // whether they are; the model top, whether lit, and whether lights are folded with it; the texgen mode and whether the
 // lookat axes are; whether there is fog, the place of its pair, and whether it is appended.
+// Values and marks, no Option: matrix, top and the fog pair's place are read whether they are appended or not, and the
+// marks alone by `more_by` and `shared_by`.
 #[derive(Clone, Copy)]
 pub struct Settled {
     pub combined: [f32; 16],
@@ -119,10 +121,10 @@ fn fill(number: u32, used: u32, more: u32, room: usize) -> Fill
     ensures { result ≡ record { number = number; used = used; more = more; room = room } }
 {
     Fill {
-        number: number,
-        used: used,
-        more: more,
-        room: room,
+        number,
+        used,
+        more,
+        room,
     }
 }
 
@@ -220,16 +222,16 @@ impl State {
             & fold::decision::folds(self.lookat.folded, self.lookat.changed, otop, model);
         let fog = foggy & !(place < self.counts.fogs);
         Settled {
-            combined: combined,
+            combined,
             newmatrix: matrix,
             scales: entry,
             newscale: scale,
-            model: model,
-            lit: lit,
+            model,
+            lit,
             newlights: light,
-            texgen: texgen,
+            texgen,
             newlookat: look,
-            foggy: foggy,
+            foggy,
             fogat: place,
             newfog: fog,
         }
@@ -253,21 +255,21 @@ impl State {
         let fog = decide::number::if_else(d.foggy, d.fogat + 1, 0);
         let lookat = decide::number::if_else(d.texgen == 0, 0, place);
         Shared {
-            matrix: matrix,
-            viewport: viewport,
-            scale: scale,
-            light: light,
-            lights: lights,
+            matrix,
+            viewport,
+            scale,
+            light,
+            lights,
             texgen: d.texgen,
-            fog: fog,
-            lookat: lookat,
+            fog,
+            lookat,
             zscale: v[2],
             ztranslation: v[5],
         }
     }
 
     // The tables before the rows written: the counts then, of the load's rows too. Asks for counts and a light number in
-    // their ranges. The areas are handed on one by one, here and to `settle`: in a struct, each would be named as often, in the contracts too.
+    // their ranges. The areas are handed on one by one, as `load` is lent them.
     fn tables_written(
         self,
         d: Settled,
@@ -325,11 +327,11 @@ impl State {
         let lookats = decide::number::if_else(d.newlookat, 1, 0);
         let fogs = decide::number::if_else(d.newfog, 1, 0);
         More {
-            matrices: matrices,
-            scales: scales,
-            lights: lights,
-            lookats: lookats,
-            fogs: fogs,
+            matrices,
+            scales,
+            lights,
+            lookats,
+            fogs,
             rows: count,
         }
     }
@@ -411,10 +413,10 @@ impl State {
         let l = lights_then(self.lights, d.newlights, model, self.counts.lights);
         let o = lookat_then(self.lookat, d.newlookat, model, self.counts.lookats);
         Ok(Prepared {
-            notice: notice,
-            shared: shared,
-            counts: counts,
-            combined: combined,
+            notice,
+            shared,
+            counts,
+            combined,
             lights: l,
             lookat: o,
         })
@@ -503,7 +505,7 @@ impl State {
         self.z = z;
         Answered {
             state: self,
-            answer: answer,
+            answer,
         }
     }
 }
