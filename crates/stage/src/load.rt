@@ -1,5 +1,5 @@
 // Load, clip codes and depths.
-ghost use Rattle.std.specs.Prelude.{◌≡◌, [], ◌+◌, ◌*◌, ◌≤◌, min, length};
+ghost use Rattle.std.specs.Prelude.{◌≡◌, [], ◌+◌, ◌*◌, ◌≤◌, length};
 ghost use Rattle.areas.specs.Area.{entries};
 ghost use Rattle.areas.specs.Widths.{most, matrix_width, scale_width, fog_width};
 ghost use Rattle.matrix.specs.Math.{rows, laid, times};
@@ -11,9 +11,7 @@ ghost use Rattle.stage.specs.Load.{settled, shared_by, load_edits, load_areas, l
 ghost use Rattle.stage.specs.Steps.{Ranged, TablesAre, rooms_of, six_lent, more_by, no_more, early_answer, late_answer, Prepares};
 
 use crate::{Answer, Answered, Counts, Lights, Lookat, State};
-use areas::widths::{
-    FLOAT_WIDTH, FOG_WIDTH, LIGHT_WIDTH, LOOKAT_WIDTH, MATRIX_WIDTH, SCALE_WIDTH, WORD_WIDTH,
-};
+use areas::widths::{FOG_WIDTH, LIGHT_WIDTH, LOOKAT_WIDTH, MATRIX_WIDTH, SCALE_WIDTH};
 use decide::judge::Fill;
 use vertex::Shared;
 
@@ -71,13 +69,8 @@ pub struct Prepared {
     pub lookat: Lookat,
 }
 
-fn lesser(a: usize, b: usize) -> usize
-    ensures { result ≡ min a b }
-{
-    if a < b { a } else { b }
-}
-
 // The rooms of the lent areas, by their lengths. A row lies in two of them, and has the lesser room.
+#[tactic(auto, unfolding(crate::specs::Steps::rooms_of))]
 fn rooms_of(
     matrices: usize,
     scales: usize,
@@ -95,10 +88,7 @@ fn rooms_of(
         lights: areas::room_of(LIGHT_WIDTH, lights),
         lookats: areas::room_of(LOOKAT_WIDTH, lookats),
         fogs: areas::room_of(FOG_WIDTH, fogs),
-        rows: lesser(
-            areas::room_of(FLOAT_WIDTH, floats),
-            areas::room_of(WORD_WIDTH, words),
-        ),
+        rows: change::judge::row_room(floats, words),
     }
 }
 
