@@ -307,21 +307,21 @@ impl State {
     }
 
     // How many entries the load appends to each table. Asks for a light number in its range.
+    #[tactic(auto, unfolding(crate::specs::Steps::more_by, numbers::specs::Choice::pick))]
     fn more_by(self, d: Settled, count: u32) -> More
         requires { self.lights.number ≤ 7 }
         ensures { result ≡ more_by d self count }
     {
-        let matrices = decide::number::if_else(d.newmatrix, 1, 0);
-        let scales = decide::number::if_else(d.newscale, 1, 0);
-        let lights = decide::number::if_else(d.newlights, self.lights.number + 1, 0);
-        let lookats = decide::number::if_else(d.newlookat, 1, 0);
-        let fogs = decide::number::if_else(d.newfog, 1, 0);
         More {
-            matrices,
-            scales,
-            lights,
-            lookats,
-            fogs,
+            matrices: u32::from(d.newmatrix),
+            scales: u32::from(d.newscale),
+            lights: if d.newlights {
+                self.lights.number + 1
+            } else {
+                0
+            },
+            lookats: u32::from(d.newlookat),
+            fogs: u32::from(d.newfog),
             rows: count,
         }
     }
@@ -355,13 +355,14 @@ impl State {
 
     // What is due once all is settled: what is told of the matrix, or a refusal by the first table that is full. Asks for a
     // light number in its range.
+    #[tactic(auto, unfolding(crate::specs::Steps::late_answer, numbers::specs::Choice::pick))]
     fn late(self, d: Settled, count: u32, rooms: Rooms) -> Result<u32, Answer>
         requires { self.lights.number ≤ 7 }
         ensures { result ≡ late_answer d self count rooms }
     {
         match short_table(self.counts, self.more_by(d, count), rooms) {
             Some(full) => Err(Answer::NoRoom(full)),
-            None => Ok(decide::number::if_else(self.defined, 0, 1)),
+            None => Ok(u32::from(!self.defined)),
         }
     }
 
