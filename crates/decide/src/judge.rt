@@ -55,10 +55,5 @@ impl Fill {
 pub fn first_short(tables: &[Fill]) -> Option<u32>
     ensures { result ≡ first_short (map fill_of tables.now) }
 {
-    for t in tables {
-        if t.short_of() {
-            return Some(t.number);
-        }
-    }
-    None
+    tables.iter().find(|t| t.short_of()).map(|t| t.number)
 }
