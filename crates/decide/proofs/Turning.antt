@@ -7,28 +7,25 @@ use lib.Dec.{ltb}
 use borrow.Author.Tests.{ltb-true}
 use Rattle.numbers.specs.Choice.{pick}
 use Rattle.decide.specs.Stack.{pushed, popped}
+use Rattle.decide.specs.Steps.{Deep}
 
--- a depth of the stack
-abbrev InStack : ℕ → Type 0
-InStack d = (1 ≤ d) × (d ≤ 32)
-
-pushed-in : (push : Bool) (d : ℕ) → InStack d → InStack (pushed push d)
+pushed-in : (push : Bool) (d : ℕ) → Deep d → Deep (pushed push d)
 unfolding pushed pick
 pushed-in push d h = go (push && ltb d 32) refl
   where
-    go : (b : Bool) → push && ltb d 32 ≡ b → InStack (pick b (d + 1) d)
+    go : (b : Bool) → push && ltb d 32 ≡ b → Deep (pick b (d + 1) d)
     go true e = let l : d < 32 = ltb-true d 32 ((and-eq-true_iff push (ltb d 32)).0 e).1 in omega arith
     go false e = h
 
-pub pushed-low : (push : Bool) (d r : ℕ) → r ≡ pushed push d → InStack d → 1 ≤ r
+pub pushed-low : (push : Bool) (d r : ℕ) → r ≡ pushed push d → Deep d → 1 ≤ r
 pushed-low push d r e h = subst (λ (k : ℕ). 1 ≤ k) (sym e) (pushed-in push d h).0
 
 -- the depth of a matrix taken, as the code says it
-pub turned-in : (push projecting : Bool) (d r : ℕ) → r ≡ pick projecting d (pushed push d) → InStack d → InStack r
+pub turned-in : (push projecting : Bool) (d r : ℕ) → r ≡ pick projecting d (pushed push d) → Deep d → Deep r
 unfolding pick
-turned-in push true d r e h = subst InStack (sym e) h
-turned-in push false d r e h = subst InStack (sym e) (pushed-in push d h)
+turned-in push true d r e h = subst Deep (sym e) h
+turned-in push false d r e h = subst Deep (sym e) (pushed-in push d h)
 
-pub popped-in : (count d r : ℕ) → r ≡ popped count d → InStack d → InStack r
+pub popped-in : (count d r : ℕ) → r ≡ popped count d → Deep d → Deep r
 unfolding popped
 popped-in count d r e h = omega arith

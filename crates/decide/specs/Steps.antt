@@ -1,5 +1,5 @@
 -- What serves private steps of the code only: no promise of a command is said in these words. Definitions only.
-use Rattle.std.specs.Prelude.{ℕ, ◌+◌, Bool, not, List, [], ◌∷◌, leb, Float, Option, Some, None}
+use Rattle.std.specs.Prelude.{ℕ, ◌+◌, ◌≤◌, Bool, not, List, [], ◌∷◌, leb, Float, Option, Some, None}
 use Rattle.std.specs.Float.Ieee.{eq}
 use Rattle.numbers.specs.Choice.{pick, unless}
 use Rattle.areas.specs.Area.{matches}
@@ -31,6 +31,10 @@ ended w n e l =
       count = pick (matches eq (final t.used) e) (Some n) (pick roomy (Some (n + 1)) None);
       area = pick roomy (after w n (appended t e) l) l;
     }
+
+-- a depth of the model stack, which holds 1 to 32 matrices
+abbrev pub Deep : ℕ → Type 0
+Deep depth = (1 ≤ depth) × (depth ≤ 32)
 
 -- the number of the first table that does not fit
 unfoldable pub first_short : List Lent → Option ℕ

@@ -39,6 +39,7 @@ pub fn append(floats: &mut [f32], width: u32, used: u32, entry: &[f32]) -> Optio
 }
 
 // `entry` appended where `need` says so: the count then. Asks for a count that does not wrap, which the state's judge has seen to.
+// A mark and no Option: the entry is there in both cases.
 pub fn put_if<T: Copy>(need: bool, area: &mut [T], width: u32, used: u32, entry: &[T]) -> u32
     requires { used ≤ most }
     ensures { record { count = result; area = area.new } ≡ put_by width used (only_if need (entry.now ∷ [])) area.old }

@@ -4,6 +4,7 @@ ghost use Rattle.decide.specs.Family.{lit, foggy, texgen_mode};
 
 use crate::family::Family;
 
+// A name for each flag that a load asks for: the definitions have the same two.
 // Lit, by the word.
 pub fn is_lit(f: Family, geometry: u32) -> bool
     ensures { result ≡ lit f geometry }

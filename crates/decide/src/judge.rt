@@ -25,11 +25,12 @@ pub fn has_flag(v: u32, x: u32) -> bool
     x.checked_div(v).is_some_and(|n| n % 2 == 1)
 }
 
-// Whether slots `first` to `first + count - 1` are among so many.
+// Whether slots `first` to `first + count - 1` are among so many. One test is enough: then `count` is no more either.
+#[tactic(auto, using(crate::proofs::Slots::no_more_slots))]
 pub fn slots_there(slots: u32, first: u32, count: u32) -> bool
     ensures { result ≡ leb count slots && leb (first + count) slots }
 {
-    slots.checked_sub(count).is_some_and(|last| first <= last)
+    holds(first, count, slots as usize)
 }
 
 // A table as refusals 8 and 9 see it: its number, entries in use, entries to be appended, room.
@@ -54,10 +55,5 @@ impl Fill {
 pub fn first_short(tables: &[Fill]) -> Option<u32>
     ensures { result ≡ first_short (map fill_of tables.now) }
 {
-    for t in tables {
-        if t.short_of() {
-            return Some(t.number);
-        }
-    }
-    None
+    tables.iter().find(|t| t.short_of()).map(|t| t.number)
 }

@@ -1,11 +1,12 @@
 // The model stack, and when a geometry mode word relights.
-ghost use Rattle.std.specs.Prelude.{◌≡◌, ◌+◌, ◌-◌, ◌*◌, ◌≤◌};
+ghost use Rattle.std.specs.Prelude.{◌≡◌, ◌+◌, ◌-◌, ◌*◌};
 ghost use Rattle.numbers.specs.Choice.{pick};
 ghost use Rattle.areas.specs.Area.{put};
 ghost use Rattle.areas.specs.Widths.{matrix_width};
 ghost use Rattle.matrix.specs.Math.{rows, laid, times};
 ghost use Rattle.decide.specs.Family.{flag};
 ghost use Rattle.decide.specs.Stack.{made, pushed, popped, relit};
+ghost use Rattle.decide.specs.Steps.{Deep};
 
 use crate::family::Family;
 use areas::widths::MATRIX_WIDTH;
@@ -41,7 +42,7 @@ pub fn popped_depth(count: u32, depth: u32) -> u32
 // The matrix on top of a stack of so many. Asks for a depth of the stack, since every other is refused before it is read.
 #[tactic(auto, unfolding(matrix::specs::Math::rows))]
 fn top_of(s: &[f32; 512], depth: u32) -> [[f32; 4]; 4]
-    requires { (1 ≤ depth) × (depth ≤ 32) }
+    requires { Deep depth }
     ensures { result ≡ rows s.now (matrix_width * (depth - 1)) }
 {
     let a = (MATRIX_WIDTH as usize) * ((depth - 1) as usize);
@@ -59,7 +60,7 @@ fn top_of(s: &[f32; 512], depth: u32) -> [[f32; 4]; 4]
 // The same. A function that calls itself is never taken into its caller, and then reads the caller's stack where it stands;
 // else a copy of the stack is made first. The call is not reached, since no depth above 32 is asked for.
 pub fn top_at(s: &[f32; 512], depth: u32) -> [[f32; 4]; 4]
-    requires { (1 ≤ depth) × (depth ≤ 32) }
+    requires { Deep depth }
     ensures { result ≡ rows s.now (matrix_width * (depth - 1)) }
 {
     if 32 < depth {
@@ -80,7 +81,7 @@ fn turn(
     projection: [f32; 16],
     depth: u32,
 ) -> (u32, [f32; 16])
-    requires { (1 ≤ depth) × (depth ≤ 32) }
+    requires { Deep depth }
     ensures { (result.0 ≡ pick projecting depth (pushed push depth)) × (result.1 ≡ pick projecting (laid (made load m (rows projection 0))) projection) × (stack.new ≡ pick projecting stack.old (put stack.old (matrix_width * (pushed push depth - 1)) (laid (made load m (rows stack.old (matrix_width * (depth - 1))))))) }
 {
     if projecting {
@@ -118,7 +119,7 @@ pub fn take(
     projection: [f32; 16],
     depth: u32,
 ) -> Taken
-    requires { (1 ≤ depth) × (depth ≤ 32) }
+    requires { Deep depth }
     ensures depth { result.depth ≡ pick (flag family.projection flags) depth (pushed (flag family.push flags) depth) }
     ensures projection { result.projection ≡ pick (flag family.projection flags) (laid (made (flag family.load flags) m (rows projection 0))) projection }
     ensures stack { stack.new ≡ pick (flag family.projection flags) stack.old (put stack.old (matrix_width * (pushed (flag family.push flags) depth - 1)) (laid (made (flag family.load flags) m (rows stack.old (matrix_width * (depth - 1)))))) }

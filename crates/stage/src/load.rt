@@ -1,25 +1,25 @@
 // Load, clip codes and depths.
-ghost use Rattle.std.specs.Prelude.{◌≡◌, [], ◌+◌, ◌*◌, ◌≤◌, min, length};
+ghost use Rattle.std.specs.Prelude.{◌≡◌, [], ◌+◌, ◌*◌, ◌≤◌, length};
 ghost use Rattle.areas.specs.Area.{entries};
 ghost use Rattle.areas.specs.Widths.{most, matrix_width, scale_width, fog_width};
 ghost use Rattle.matrix.specs.Math.{rows, laid, times};
 ghost use Rattle.decide.specs.Family.{family_of};
-ghost use Rattle.decide.specs.Steps.{first_short};
+ghost use Rattle.decide.specs.Steps.{first_short, Deep};
 ghost use Rattle.stage.specs.Plan.{outcome, pick};
 ghost use Rattle.stage.specs.With.{folded_lights, folded_lookat};
 ghost use Rattle.stage.specs.Load.{settled, shared_by, load_edits, load_areas, load_means};
 ghost use Rattle.stage.specs.Steps.{Ranged, TablesAre, rooms_of, six_lent, more_by, no_more, early_answer, late_answer, Prepares};
 
 use crate::{Answer, Answered, Counts, Lights, Lookat, State};
-use areas::widths::{
-    FLOAT_WIDTH, FOG_WIDTH, LIGHT_WIDTH, LOOKAT_WIDTH, MATRIX_WIDTH, SCALE_WIDTH, WORD_WIDTH,
-};
+use areas::widths::{FOG_WIDTH, LIGHT_WIDTH, LOOKAT_WIDTH, MATRIX_WIDTH, SCALE_WIDTH};
 use decide::judge::Fill;
 use vertex::Shared;
 
 // What a load settles before any row: the combined matrix in force and whether it is appended; the texture scales and
 // whether they are; the model top, whether lit, and whether lights are folded with it; the texgen mode and whether the
 // lookat axes are; whether there is fog, the place of its pair, and whether it is appended.
+// Values and marks, no Option: matrix, top and the fog pair's place are read whether they are appended or not, and the
+// marks alone by `more_by` and `shared_by`.
 #[derive(Clone, Copy)]
 pub struct Settled {
     pub combined: [f32; 16],
@@ -69,13 +69,8 @@ pub struct Prepared {
     pub lookat: Lookat,
 }
 
-fn lesser(a: usize, b: usize) -> usize
-    ensures { result ≡ min a b }
-{
-    if a < b { a } else { b }
-}
-
 // The rooms of the lent areas, by their lengths. A row lies in two of them, and has the lesser room.
+#[tactic(auto, unfolding(crate::specs::Steps::rooms_of))]
 fn rooms_of(
     matrices: usize,
     scales: usize,
@@ -93,10 +88,7 @@ fn rooms_of(
         lights: areas::room_of(LIGHT_WIDTH, lights),
         lookats: areas::room_of(LOOKAT_WIDTH, lookats),
         fogs: areas::room_of(FOG_WIDTH, fogs),
-        rows: lesser(
-            areas::room_of(FLOAT_WIDTH, floats),
-            areas::room_of(WORD_WIDTH, words),
-        ),
+        rows: change::judge::row_room(floats, words),
     }
 }
 
@@ -119,10 +111,10 @@ fn fill(number: u32, used: u32, more: u32, room: usize) -> Fill
     ensures { result ≡ record { number = number; used = used; more = more; room = room } }
 {
     Fill {
-        number: number,
-        used: used,
-        more: more,
-        room: room,
+        number,
+        used,
+        more,
+        room,
     }
 }
 
@@ -195,7 +187,7 @@ impl State {
         scales: &[f32],
         fogs: &[i16],
     ) -> Settled
-        requires { (1 ≤ self.depth) × (self.depth ≤ 32) × (stack.now ≡ self.stack) }
+        requires { Deep self.depth × (stack.now ≡ self.stack) }
         ensures { result ≡ settled (family_of self.microcode) self (entries matrix_width self.counts.matrices matrices.now) (entries scale_width self.counts.scales scales.now) (entries fog_width self.counts.fogs fogs.now) }
     {
         let family = decide::family::family_of(self.microcode);
@@ -220,16 +212,16 @@ impl State {
             & fold::decision::folds(self.lookat.folded, self.lookat.changed, otop, model);
         let fog = foggy & !(place < self.counts.fogs);
         Settled {
-            combined: combined,
+            combined,
             newmatrix: matrix,
             scales: entry,
             newscale: scale,
-            model: model,
-            lit: lit,
+            model,
+            lit,
             newlights: light,
-            texgen: texgen,
+            texgen,
             newlookat: look,
-            foggy: foggy,
+            foggy,
             fogat: place,
             newfog: fog,
         }
@@ -253,21 +245,21 @@ impl State {
         let fog = decide::number::if_else(d.foggy, d.fogat + 1, 0);
         let lookat = decide::number::if_else(d.texgen == 0, 0, place);
         Shared {
-            matrix: matrix,
-            viewport: viewport,
-            scale: scale,
-            light: light,
-            lights: lights,
+            matrix,
+            viewport,
+            scale,
+            light,
+            lights,
             texgen: d.texgen,
-            fog: fog,
-            lookat: lookat,
+            fog,
+            lookat,
             zscale: v[2],
             ztranslation: v[5],
         }
     }
 
     // The tables before the rows written: the counts then, of the load's rows too. Asks for counts and a light number in
-    // their ranges. The areas are handed on one by one, here and to `settle`: in a struct, each would be named as often, in the contracts too.
+    // their ranges. The areas are handed on one by one, as `load` is lent them.
     fn tables_written(
         self,
         d: Settled,
@@ -315,21 +307,21 @@ impl State {
     }
 
     // How many entries the load appends to each table. Asks for a light number in its range.
+    #[tactic(auto, unfolding(crate::specs::Steps::more_by, numbers::specs::Choice::pick))]
     fn more_by(self, d: Settled, count: u32) -> More
         requires { self.lights.number ≤ 7 }
         ensures { result ≡ more_by d self count }
     {
-        let matrices = decide::number::if_else(d.newmatrix, 1, 0);
-        let scales = decide::number::if_else(d.newscale, 1, 0);
-        let lights = decide::number::if_else(d.newlights, self.lights.number + 1, 0);
-        let lookats = decide::number::if_else(d.newlookat, 1, 0);
-        let fogs = decide::number::if_else(d.newfog, 1, 0);
         More {
-            matrices: matrices,
-            scales: scales,
-            lights: lights,
-            lookats: lookats,
-            fogs: fogs,
+            matrices: u32::from(d.newmatrix),
+            scales: u32::from(d.newscale),
+            lights: if d.newlights {
+                self.lights.number + 1
+            } else {
+                0
+            },
+            lookats: u32::from(d.newlookat),
+            fogs: u32::from(d.newfog),
             rows: count,
         }
     }
@@ -363,13 +355,14 @@ impl State {
 
     // What is due once all is settled: what is told of the matrix, or a refusal by the first table that is full. Asks for a
     // light number in its range.
+    #[tactic(auto, unfolding(crate::specs::Steps::late_answer, numbers::specs::Choice::pick))]
     fn late(self, d: Settled, count: u32, rooms: Rooms) -> Result<u32, Answer>
         requires { self.lights.number ≤ 7 }
         ensures { result ≡ late_answer d self count rooms }
     {
         match short_table(self.counts, self.more_by(d, count), rooms) {
             Some(full) => Err(Answer::NoRoom(full)),
-            None => Ok(decide::number::if_else(self.defined, 0, 1)),
+            None => Ok(u32::from(!self.defined)),
         }
     }
 
@@ -411,10 +404,10 @@ impl State {
         let l = lights_then(self.lights, d.newlights, model, self.counts.lights);
         let o = lookat_then(self.lookat, d.newlookat, model, self.counts.lookats);
         Ok(Prepared {
-            notice: notice,
-            shared: shared,
-            counts: counts,
-            combined: combined,
+            notice,
+            shared,
+            counts,
+            combined,
             lights: l,
             lookat: o,
         })
@@ -503,7 +496,7 @@ impl State {
         self.z = z;
         Answered {
             state: self,
-            answer: answer,
+            answer,
         }
     }
 }

@@ -218,7 +218,7 @@ impl State {
         self.stack = stack;
         Answered {
             state: self,
-            answer: answer,
+            answer,
         }
     }
 
@@ -246,7 +246,7 @@ impl State {
         };
         Answered {
             state: self,
-            answer: answer,
+            answer,
         }
     }
 
@@ -281,7 +281,7 @@ impl State {
         };
         Answered {
             state: self,
-            answer: answer,
+            answer,
         }
     }
 
@@ -307,7 +307,7 @@ impl State {
         };
         Answered {
             state: self,
-            answer: answer,
+            answer,
         }
     }
 
@@ -327,7 +327,7 @@ impl State {
         }
         Answered {
             state: self,
-            answer: answer,
+            answer,
         }
     }
 }

@@ -61,18 +61,18 @@ impl State {
         let mut answer = Answer::BadState;
         if self.sound() {
             let t = Texture {
-                tile: tile,
-                level: level,
-                on: on,
-                sc: sc,
-                tc: tc,
+                tile,
+                level,
+                on,
+                sc,
+                tc,
             };
             self.texture = t;
             answer = Answer::Done;
         }
         Answered {
             state: self,
-            answer: answer,
+            answer,
         }
     }
 
@@ -88,7 +88,7 @@ impl State {
         }
         Answered {
             state: self,
-            answer: answer,
+            answer,
         }
     }
 
@@ -105,7 +105,7 @@ impl State {
         }
         Answered {
             state: self,
-            answer: answer,
+            answer,
         }
     }
 
@@ -133,7 +133,7 @@ impl State {
         };
         Answered {
             state: self,
-            answer: answer,
+            answer,
         }
     }
 
@@ -152,7 +152,7 @@ impl State {
         };
         Answered {
             state: self,
-            answer: answer,
+            answer,
         }
     }
 
@@ -176,7 +176,7 @@ impl State {
         }
         Answered {
             state: self,
-            answer: answer,
+            answer,
         }
     }
 }

@@ -6,7 +6,7 @@ use Rattle.stage.proofs.Loading.{sound-early, rows-count, ranged}
 use Rattle.stage.proofs.State.settle.Goals as goal
 
 pub settled_by-d-requires : goal.settled_by-d-requires
-settled_by-d-requires c = let r = sound-early _ _ _ _ _ _ (sym c.in_ok-early.ensures) in (r.low, r.high, refl)
+settled_by-d-requires c = let r = sound-early _ _ _ _ _ _ (sym c.in_ok-early.ensures) in ((r.low, r.high), refl)
 
 pub late-requires : goal.late-requires
 late-requires c = (sound-early _ _ _ _ _ _ (sym c.in_ok-early.ensures)).lights

@@ -16,7 +16,7 @@ pub returns : goal.returns
 returns c =
     let s = c.args.self in
     let fam = c.family_of-family.ensures in
-    let top = c.top_at-top.ensures ∙ ap (λ (l : List Float). rows l (matrix_width * (s.depth - 1))) c.requires.2 in
+    let top = c.top_at-top.ensures ∙ ap (λ (l : List Float). rows l (matrix_width * (s.depth - 1))) c.requires.1 in
     settled_is _ s _ _ _ c.combined_now-combined.result c.scales_of-entry.result c.to_flat-model.result c.last_is.result c.scale_is-scale.result c.folds.result c.folds-2.result c.is_lit-lit.result c.is_foggy-foggy.result c.texgen_mode-texgen.result c.fog_place-place.result s.counts.fogs
     (c.combined_now-combined.ensures ∙ ap (λ (x : List (List Float)). pick s.defined s.combined (laid (times x (rows s.projection 0)))) top)
     c.scales_of-entry.ensures
