@@ -27,14 +27,16 @@ fn uncoded(loaded: bool, slot: u32) -> Answer
 }
 
 // The reason of the cull test's answer, as an answer.
-fn answer_for(r: Reason) -> Answer
-    ensures { (number result ≡ 0) × (values result ≡ told r) }
-{
-    match r {
-        Reason::AllOutside(plane) => Answer::AllOutside(plane),
-        Reason::FirstInside(left, right, bottom, top) => Answer::FirstInside(
-            left, right, bottom, top,
-        ),
+impl From<Reason> for Answer {
+    ghost from_gives = { λ r a. (number a ≡ 0) × (values a ≡ told r) };
+
+    fn from(r: Reason) -> Answer {
+        match r {
+            Reason::AllOutside(plane) => Answer::AllOutside(plane),
+            Reason::FirstInside(left, right, bottom, top) => Answer::FirstInside(
+                left, right, bottom, top,
+            ),
+        }
     }
 }
 
@@ -122,7 +124,7 @@ impl State {
         let test = self.culled(first, last);
         if let Answer::Told(_) = test {
             let code = self.code;
-            return answer_for(reason::reason_of(&code, first, last));
+            return Answer::from(reason::reason_of(&code, first, last));
         }
         test
     }
