@@ -187,7 +187,6 @@ impl State {
     ) -> Answered
         ensures { outcome result (indices.new, runs.new) ≡ draw_means self a b c (material ∷ render_mode ∷ fog_colour ∷ prim_depth ∷ []) (indices.old, runs.old) }
     {
-        let family = decide::family::family_of(self.microcode);
         let row = self.row;
         let ever = self.ever;
         let mut drawn = self.drawn;
@@ -201,7 +200,7 @@ impl State {
             indexlen: indices.len(),
             runlen: runs.len(),
         };
-        let sides = slot::sides_of(family, self.geometry);
+        let sides = slot::sides_of(decide::family::family_of(self.microcode), self.geometry);
         let asked = [material, render_mode, fog_colour, prim_depth];
         let set = run::settings_of(asked, sides.cull, self.microcode);
         let last = run::last_run(runs, m, set);

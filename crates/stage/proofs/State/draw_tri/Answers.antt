@@ -26,7 +26,7 @@ asked c = c.args.material ∷ c.args.render_mode ∷ c.args.fog_colour ∷ c.arg
 
 -- the sides are those of the state's family
 sided : (c : After-judge) → c.sides_of-sides.result ≡ sides_of (family_of c.args.self.microcode) c.args.self.geometry
-sided c = c.sides_of-sides.ensures ∙ ap (λ (g : Family). sides_of g c.args.self.geometry) c.family_of-family.ensures
+sided c = c.sides_of-sides.ensures ∙ ap (λ (g : Family). sides_of g c.args.self.geometry) c.family_of.ensures
 
 -- the verdict is the one that the laws speak of
 found : (c : After-judge) → c.judge.result ≡ judgement (family_of c.args.self.microcode) 256 c.args.self c.args.indices.now c.args.runs.now c.args.a c.args.b c.args.c (asked c) refl
