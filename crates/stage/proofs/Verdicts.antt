@@ -27,18 +27,17 @@ use Rattle.triangle.specs.Steps.{six, last_of, sides_of, corner, corner_at, grow
 use Rattle.triangle.proofs.Lasts.{last-closes, last-same, run-grows}
 use Rattle.triangle.proofs.Recording.{Grown, Begun, Recorded, recorded, Rooms, rooms}
 use Rattle.triangle.proofs.Slots.{held-read, held_place, held_reads}
-use Rattle.std.proofs.Common.{Option, None, Some, Result, Ok, Err, IsSome}
+use Rattle.std.proofs.Common.{Option, None, Some, Result, Ok, Err}
 use Rattle.std.specs.Bool.{then_some}
-use Rattle.std.specs.Result.{result_unwrap_or}
 use Rattle.stage.specs.declared.State.{State}
 use Rattle.stage.specs.declared.Counts.{Counts}
 use Rattle.stage.specs.declared.Answer.{Answer}
+use Rattle.stage.specs.declared.Answer.TheVariants.{Done}
 use Rattle.stage.specs.Sound.{state_sound}
 use Rattle.stage.specs.Plan.{keep, grow, Plan, refuse, does, unless, pick, more, lent, judge, table, counted, after, untouched, outcome, carry}
 use Rattle.stage.specs.With.{with_drawn, with_counts}
 use Rattle.stage.specs.Draw.{edits89, areas89, row_of, placed, mark, triangle, run_edit, draw_plan}
-use Rattle.stage.specs.declared.draw.Corners.{Corners}
-use Rattle.stage.specs.Steps.{draw_answer, corners_at}
+use Rattle.stage.specs.Steps.{draw_answer}
 
 -- ---- the plan by the verdict
 
@@ -82,34 +81,34 @@ exit s k false (Ok r) p h = h
 exit s k false (Err e) p h = h
 
 -- what table 9 needs: nothing where the last run grows
-run_step : (k : Plan) (t : Tables) (last : Option Last) (us : List (List ℕ)) (n : ℕ) (q : List ℕ) → same_run 0 us q ≡ grows last → leb (t.runs + 0) (room run_width t.runlen) ≡ true
-    → unless (leb (t.runs + more (run_edit us n q)) (room run_width t.runlen)) (refuse 9 (9 ∷ [])) k ≡ by_stage k (run_for t last)
+run_step : (k : Plan) (rows : List ℕ) (t : Tables) (last : Option Last) (us : List (List ℕ)) (n : ℕ) (q : List ℕ) → same_run 0 us q ≡ grows last → leb (t.runs + 0) (room run_width t.runlen) ≡ true
+    → unless (leb (t.runs + more (run_edit us n q)) (room run_width t.runlen)) (refuse 9 (9 ∷ [])) k ≡ by_stage k (run_for rows t last)
 unfolding run_edit pick unless
-run_step k t None us n q e h = rw e (step (by_stage k) _ _ (Full 9) _ _ _ _ refl refl (λ _. refl))
-run_step k t (Some l) us n q e h = go l.same e
+run_step k rows t None us n q e h = rw e (step (by_stage k) _ _ (Full 9) _ _ _ _ refl refl (λ _. refl))
+run_step k rows t (Some l) us n q e h = go l.same e
   where
-    go : (b : Bool) → same_run 0 us q ≡ b → unless (leb (t.runs + more (run_edit us n q)) (room run_width t.runlen)) (refuse 9 (9 ∷ [])) k ≡ by_stage k (pick b (Ok (record { more = 0; start = l.start; count = l.count + 3 })) (begun t))
+    go : (b : Bool) → same_run 0 us q ≡ b → unless (leb (t.runs + more (run_edit us n q)) (room run_width t.runlen)) (refuse 9 (9 ∷ [])) k ≡ by_stage k (pick b (Ok (record { rows = rows; more = 0; start = l.start; count = l.count + 3 })) (begun rows t))
     go true e = rw (e, h)
     go false e = rw e (step (by_stage k) _ _ (Full 9) _ _ _ _ refl refl (λ _. refl))
 
 -- the judge's tests are those of the plan, stage by stage. n indices and w runs are in use, k is planned where a triangle is recorded, and q
--- are its settings
-module _ (k : Plan) (l m : List ℕ) (n w rows : ℕ) (q : List ℕ) (long : length q ≡ settings_wide) where
+-- are its settings, x its rows
+module _ (k : Plan) (l m : List ℕ) (n w rows : ℕ) (x q : List ℕ) (long : length q ≡ settings_wide) where
   room-plan : (es : List (List ℕ)) → length es ≡ 3 → w ≤ room run_width (length m)
       → unless (closed 0 (entries run_width w m) (length (entries index_width n l))) (refuse 10 [])
       (judge 9 (lent 8 (table index_width n l) (grow es) ∷ lent 9 (table run_width w m) (run_edit (entries run_width w m) (length (entries index_width n l)) q) ∷ []) k)
-      ≡ by_stage k (draw_last (draw_tables rows n w (length l) (length m)) (last_of w m q))
+      ≡ by_stage k (draw_last x (draw_tables rows n w (length l) (length m)) (last_of w m q))
   unfolding draw_last
   room-plan es three r =
       step (by_stage k) _ _ _ _ _ _ _ (rw (length-entries index_width n l) (sym (last-closes w m q n r))) refl
       (λ _. step (by_stage k) _ _ _ _ _ _ _ (rw (length-entries index_width n l, three)) refl
-      (λ _. rw (length-entries run_width w m) (run_step k (draw_tables rows n w (length l) (length m)) (last_of w m q) (entries run_width w m) (length (entries index_width n l)) q (sym (last-same w m q long r)) (le-leb (w + 0) (room run_width (length m)) (omega arith)))))
+      (λ _. rw (length-entries run_width w m) (run_step k x (draw_tables rows n w (length l) (length m)) (last_of w m q) (entries run_width w m) (length (entries index_width n l)) q (sym (last-same w m q long r)) (le-leb (w + 0) (room run_width (length m)) (omega arith)))))
 
   areas-plan : (es : List (List ℕ)) → length es ≡ 3
       → judge 8 (lent 8 (table index_width n l) keep ∷ lent 9 (table run_width w m) keep ∷ [])
       (unless (closed 0 (entries run_width w m) (length (entries index_width n l))) (refuse 10 [])
       (judge 9 (lent 8 (table index_width n l) (grow es) ∷ lent 9 (table run_width w m) (run_edit (entries run_width w m) (length (entries index_width n l)) q) ∷ []) k))
-      ≡ by_stage k (draw_areas (draw_tables rows n w (length l) (length m)) (last_of w m q))
+      ≡ by_stage k (draw_areas x (draw_tables rows n w (length l) (length m)) (last_of w m q))
   unfolding draw_areas
   areas-plan es three =
       step (by_stage k) _ _ _ _ _ _ _ (rw (length-entries index_width n l)) refl
@@ -157,7 +156,7 @@ module _ (f : Family) (slots : ℕ) (s : State) (l m : List ℕ) (a b c : ℕ) (
       (λ ha. slot_step recording b _ y _ _
       (λ hb. slot_step recording c _ z _ _
       (λ hc. step (by_stage recording) _ _ _ _ _ _ _ (placed-is s a b c x y z (rx ha) (ry hb) (rz hc)) refl
-      (λ _. areas-plan recording l m s.counts.indices s.counts.runs s.counts.rows asks long (triangle f s a b c) refl))))))
+      (λ _. areas-plan recording l m s.counts.indices s.counts.runs s.counts.rows (x ∷ y ∷ z ∷ []) asks long (triangle f s a b c) refl))))))
 
   -- the verdict as the code finds it, from what it reads at each slot's number modulo the number of slots
   pub verdict-is : (sd : Sides) (p q r : Corner) (t : Tables) (set : Settings) (d : Option Last) (ok : Bool) (v : Result (Option Record) Refusal)
@@ -176,50 +175,34 @@ module _ (f : Family) (slots : ℕ) (s : State) (l m : List ℕ) (a b c : ℕ) (
       ev ∙ rw (eok, ep, eq, er, et, ed, eset, esd, held-read slots s.ever a, held-read slots s.ever b, held-read slots s.ever c)
 
   -- what a verdict to record has passed
-  abbrev pub Passed : ℕ → ℕ → ℕ → Type 0
-  Passed more start count =
+  abbrev pub Passed : Record → Type 0
+  Passed r =
       Recorded
       (corner a (held slots s.ever a) x)
       (corner b (held slots s.ever b) y)
       (corner c (held slots s.ever c) z)
       (draw_tables s.counts.rows s.counts.indices s.counts.runs (length l) (length m))
       (last_of s.counts.runs m asks)
-      more start count
+      r.rows r.more r.start r.count
 
-  pub passes : (v : Result (Option Record) Refusal) (r : Record) → v ≡ verdict → v ≡ Ok (Some r) → Passed r.more r.start r.count
+  pub passes : (v : Result (Option Record) Refusal) (r : Record) → v ≡ verdict → v ≡ Ok (Some r) → Passed r
   unfolding verdict
   passes v r e h = recorded _ _ _ _ _ _ _ _ (sym e ∙ h)
 
 -- ---- what a draw comes to
 
--- a draw that records nothing hands back the state and the areas as given
-pub unrecorded : (s : State) (k : Plan) (l : List ℕ × List ℕ) (v : Result (Option Record) Refusal) → ((r : Record) → v ≡ Ok (Some r) → ⊥)
-    → outcome (record { state = s; answer = draw_answer v }) l ≡ carry areas89 (by_verdict s k v) s l
+-- a draw that is refused hands back the state and the areas as given
+refused : (s : State) (l : List ℕ × List ℕ) (e : Refusal) → outcome (record { state = s; answer = draw_answer e }) l ≡ carry areas89 (by_refusal e) s l
 unfolding carry
-unrecorded s k l (Ok None) o = refl
-unrecorded s k l (Ok (Some r)) o = absurd (o r refl)
-unrecorded s k l (Err Unsound) o = refl
-unrecorded s k l (Err (Never i)) o = refl
-unrecorded s k l (Err (Short i)) o = refl
-unrecorded s k l (Err (Full i)) o = refl
-
--- the record of a verdict, if it has one
-pub recording-is : (v : Result (Option Record) Refusal) (r : Record) → result_unwrap_or v None ≡ Some r → v ≡ Ok (Some r)
-recording-is (Ok None) r e = absurd (cc)
-recording-is (Ok (Some x)) r e = cc
-recording-is (Err x) r e = absurd (cc)
-
-pub none-recorded : (v : Result (Option Record) Refusal) → result_unwrap_or v None ≡ None → (r : Record) → v ≡ Ok (Some r) → ⊥
-none-recorded v e r h = let k : ◌≡◌ {A = Option Record} (Some r) None = rw h at e in cc
+refused s l Unsound = refl
+refused s l (Never i) = refl
+refused s l (Short i) = refl
+refused s l (Full i) = refl
 
 -- a row that is there only where the mark is
-marked : (b : Bool) (x : ℕ) → IsSome (then_some b x) → b ≡ true
-marked true x e = refl
-marked false x e = absurd (cc)
-
-pub row-read : (b : Bool) (x y : ℕ) → then_some b x ≡ Some y → y ≡ x
-row-read true x y e = cc
-row-read false x y e = absurd (cc)
+marked : (b : Bool) (x y : ℕ) → then_some b x ≡ Some y → (b ≡ true) × (y ≡ x)
+marked true x y e = (refl, cc)
+marked false x y e = absurd (cc)
 
 -- what the runs get: their count, and the run that the code writes
 run-effect : (w n x y z : ℕ) (m q : List ℕ) (t : Tables) → length q ≡ settings_wide → w ≤ room run_width (length m) → t.indices ≡ n
@@ -283,21 +266,19 @@ module _ (f : Family) (slots : ℕ) (s : State) (l m : List ℕ) (a b c : ℕ) (
   plan : planned ≡ by_verdict s (recording f slots s l m a b c asked (read a) (read b) (read c)) judgement
   plan = plan-is f slots s l m a b c asked (read a) (read b) (read c) long (reads a) (reads b) (reads c)
 
-  -- WHERE NOTHING IS RECORDED, the state and the areas are as given, and the answer is the verdict's
-  pub draws-nothing : (t : State) (i r : List ℕ) (u v : Result (Option Record) Refusal) (an : Answer) → v ≡ judgement → ((r : Record) → v ≡ Ok (Some r) → ⊥)
-      → t ≡ s → i ≡ l → r ≡ m → u ≡ v → an ≡ draw_answer u
+  -- WHERE NOTHING IS RECORDED, the state and the areas are as given, and the answer is the refusal's, or that it is done
+  pub draws-refused : (e : Refusal) → Err e ≡ judgement → (t : State) (i r : List ℕ) (an : Answer) → t ≡ s → i ≡ l → r ≡ m → an ≡ draw_answer e
       → outcome (record { state = t; answer = an }) (i, r) ≡ carry areas89 planned s (l, m)
-  draws-nothing t i r u v an ev o et ei er eu ea = rw (et, ei, er, ea, eu, plan, ← ev) (unrecorded s _ (l, m) v o)
+  draws-refused e ev t i r an et ei er ea = rw (et, ei, er, ea, plan, ← ev) (refused s (l, m) e)
+
+  pub draws-nothing : Ok None ≡ judgement → (t : State) (i r : List ℕ) → t ≡ s → i ≡ l → r ≡ m
+      → outcome (record { state = t; answer = Done }) (i, r) ≡ carry areas89 planned s (l, m)
+  unfolding carry
+  draws-nothing ev t i r et ei er = rw (et, ei, er, plan, ← ev)
 
   -- a triangle is recorded only where it has room
   pub has_room : (r : Record) (v : Result (Option Record) Refusal) → v ≡ judgement → v ≡ Ok (Some r) → Rooms s.counts.indices s.counts.runs r.more (length l) (length m)
-  has_room r v ev er = rooms _ _ _ _ _ _ _ _ _ _ _ _ (passes f slots s l m a b c asked (read a) (read b) (read c) v r ev er)
-
-  -- and only of slots that have rows
-  pub has_rows : (r : Record) (v : Result (Option Record) Refusal) → v ≡ judgement → v ≡ Ok (Some r) → (k : Corners) → k ≡ corners_at slots s.row s.ever a b c → IsSome k.p.row × IsSome k.q.row × IsSome k.s.row
-  has_rows r v ev er k ek =
-      let h = passes f slots s l m a b c asked (read a) (read b) (read c) v r ev er in
-      rw (ek, held-read slots s.ever a, held-read slots s.ever b, held-read slots s.ever c) (h.first, h.second, h.third)
+  has_room r v ev er = rooms _ _ _ _ _ _ _ _ _ _ _ _ _ (passes f slots s l m a b c asked (read a) (read b) (read c) v r ev er)
 
   -- the rows that the code writes are the entries that table run_width gets
   index-effect : held slots s.ever a ≡ true → held slots s.ever b ≡ true → held slots s.ever c ≡ true → (n : ℕ)
@@ -308,30 +289,30 @@ module _ (f : Family) (slots : ℕ) (s : State) (l m : List ℕ) (a b c : ℕ) (
   -- WHERE A TRIANGLE IS RECORDED, the three slots are drawn, and the areas and counts are those planned
   pub draws : (r : Record) (v : Result (Option Record) Refusal) → v ≡ judgement → v ≡ Ok (Some r)
       → (t : State) → t ≡ with_counts (with_drawn s (set (set (set s.drawn (a % slots) true) (b % slots) true) (c % slots) true)) (longer_by r.more s.counts)
-      → (i : List ℕ) → i ≡ put l s.counts.indices (corners (swaps f s.geometry) (read a) (read b) (read c))
+      → (i : List ℕ) → i ≡ put l s.counts.indices (corners (swaps f s.geometry) (get_or r.rows 0 0) (get_or r.rows 1 0) (get_or r.rows 2 0))
       → (g : List ℕ) → g ≡ put m ((s.counts.runs + r.more - 1) * run_width) (run_of (settings asked (culls f s.geometry) s.microcode) r.start r.count)
-      → (u : Result (Option Record) Refusal) → u ≡ Ok (Some r) → (an : Answer) → an ≡ draw_answer u
-      → outcome (record { state = t; answer = an }) (i, g) ≡ carry areas89 planned s (l, m)
+      → outcome (record { state = t; answer = Done }) (i, g) ≡ carry areas89 planned s (l, m)
   unfolding carry
-  draws r v ev er t et i ei g eg u eu an ea =
+  draws r v ev er t et i ei g eg =
       let h = passes f slots s l m a b c asked (read a) (read b) (read c) v r ev er in
-      let ha = marked _ _ h.first in
-      let hb = marked _ _ h.second in
-      let hc = marked _ _ h.third in
+      let ha = marked _ _ _ h.first in
+      let hb = marked _ _ _ h.second in
+      let hc = marked _ _ _ h.third in
       let e = run-effect s.counts.runs s.counts.indices r.more r.start r.count m _ _ long h.runs refl h.how in
       rw (
         et,
         ei,
-        index-effect ha hb hc s.counts.indices,
+        ha.1,
+        hb.1,
+        hc.1,
+        index-effect ha.0 hb.0 hc.0 s.counts.indices,
         eg,
-        ea,
-        eu,
         plan,
         ← ev,
         er,
-        held_place slots s.ever a ha,
-        held_place slots s.ever b hb,
-        held_place slots s.ever c hc,
+        held_place slots s.ever a ha.0,
+        held_place slots s.ever b hb.0,
+        held_place slots s.ever c hc.0,
         length-entries index_width s.counts.indices l,
         e.0,
         e.1,

@@ -1,6 +1,6 @@
 -- What private steps of the commands say of themselves. None of it is cited by a command's contract or by a theorem: a reader of the promises need
 -- not read it. Definitions only.
-use Rattle.std.specs.Prelude.{ℕ, ◌+◌, ◌*◌, ◌%◌, ◌≤◌, min, Bool, false, ◌&&◌, ◌≡◌, ◌⊎◌, List, [], ◌∷◌, map, length, get_or, leb, ltb, eqb, ℤ, Float, Option, Some, None, Result, Ok, Err}
+use Rattle.std.specs.Prelude.{ℕ, ◌+◌, ◌*◌, ◌%◌, ◌≤◌, min, Bool, false, ◌&&◌, ◌≡◌, ◌⊎◌, List, [], ◌∷◌, map, length, get_or, leb, ltb, ℤ, Float, Option, Some, None, Result, Ok, Err}
 use Rattle.areas.specs.Area.{room, entries, write}
 use Rattle.areas.specs.Widths.{most, matrix_width, scale_width, light_width, lookat_width, fog_width, float_width, word_width}
 use Rattle.layout.specs.declared.records.Vertex.{Vertex}
@@ -15,13 +15,12 @@ use Rattle.change.specs.declared.judge.Moved.{Moved}
 use Rattle.change.specs.declared.judge.Refusal.{Refusal}
 use Rattle.change.specs.declared.judge.Refusal.TheVariants.{NoRow, Short, Full}
 use Rattle.change.specs.declared.judge.Refusal.TheVariants as refusal
-use Rattle.triangle.specs.declared.verdict.Record.{Record}
 use Rattle.triangle.specs.declared.verdict.Refusal as undrawn
 use Rattle.triangle.specs.declared.verdict.Refusal.TheVariants as verdict
 use Rattle.stage.specs.declared.State.{State}
 use Rattle.stage.specs.declared.Counts.{Counts}
 use Rattle.stage.specs.declared.Answer.{Answer}
-use Rattle.stage.specs.declared.Answer.TheVariants.{Done, BadLoad, BadModify, NeverLoaded, ShortData, ShortArea, NoRoom, BadState}
+use Rattle.stage.specs.declared.Answer.TheVariants.{BadLoad, BadModify, NeverLoaded, ShortData, ShortArea, NoRoom, BadState}
 use Rattle.stage.specs.declared.load.Settled.{Settled}
 use Rattle.stage.specs.declared.load.More.{More}
 use Rattle.stage.specs.declared.load.Rooms.{Rooms}
@@ -207,10 +206,9 @@ corners_at slots row ever a b c =
     let at : ℕ → Corner = λ i. corner_at slots i (get_or ever (i % slots) false) (get_or row (i % slots) 0) in
     record { p = at a; q = at b; s = at c }
 
--- the answer that a verdict stands for
-abbrev pub draw_answer : Result (Option Record) undrawn.Refusal → Answer
-draw_answer (Ok drawn) = Done
-draw_answer (Err verdict.Unsound) = BadState
-draw_answer (Err (verdict.Never slot)) = NeverLoaded slot
-draw_answer (Err (verdict.Short table)) = ShortArea table
-draw_answer (Err (verdict.Full table)) = NoRoom table
+-- the answer that a refusal of a draw stands for
+abbrev pub draw_answer : undrawn.Refusal → Answer
+draw_answer verdict.Unsound = BadState
+draw_answer (verdict.Never slot) = NeverLoaded slot
+draw_answer (verdict.Short table) = ShortArea table
+draw_answer (verdict.Full table) = NoRoom table

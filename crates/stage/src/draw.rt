@@ -12,7 +12,7 @@ use crate::{Answer, Answered, State};
 use areas::widths::RUN_WIDTH;
 use reason::Reason;
 use triangle::slot::Corner;
-use triangle::verdict::{Record, Refusal, Tables};
+use triangle::verdict::{Refusal, Tables};
 use triangle::{run, slot, verdict};
 
 // The refusal of a slot that is not loaded, or has no clip code.
@@ -27,27 +27,30 @@ fn uncoded(loaded: bool, slot: u32) -> Answer
 }
 
 // The reason of the cull test's answer, as an answer.
-fn answer_for(r: Reason) -> Answer
-    ensures { (number result ≡ 0) × (values result ≡ told r) }
-{
-    match r {
-        Reason::AllOutside(plane) => Answer::AllOutside(plane),
-        Reason::FirstInside(left, right, bottom, top) => Answer::FirstInside(
-            left, right, bottom, top,
-        ),
+impl From<Reason> for Answer {
+    ghost from_gives = { λ r a. (number a ≡ 0) × (values a ≡ told r) };
+
+    fn from(r: Reason) -> Answer {
+        match r {
+            Reason::AllOutside(plane) => Answer::AllOutside(plane),
+            Reason::FirstInside(left, right, bottom, top) => Answer::FirstInside(
+                left, right, bottom, top,
+            ),
+        }
     }
 }
 
-// The answer of a draw.
-fn answer_of(v: Result<Option<Record>, Refusal>) -> Answer
-    ensures { result ≡ draw_answer v }
-{
-    match v {
-        Ok(_) => Answer::Done,
-        Err(Refusal::Unsound) => Answer::BadState,
-        Err(Refusal::Never(slot)) => Answer::NeverLoaded(slot),
-        Err(Refusal::Short(table)) => Answer::ShortArea(table),
-        Err(Refusal::Full(table)) => Answer::NoRoom(table),
+// The refusal of a draw, as an answer.
+impl From<Refusal> for Answer {
+    ghost from_gives = { λ refusal a. a ≡ draw_answer refusal };
+
+    fn from(refusal: Refusal) -> Answer {
+        match refusal {
+            Refusal::Unsound => Answer::BadState,
+            Refusal::Never(slot) => Answer::NeverLoaded(slot),
+            Refusal::Short(table) => Answer::ShortArea(table),
+            Refusal::Full(table) => Answer::NoRoom(table),
+        }
     }
 }
 
@@ -121,7 +124,7 @@ impl State {
         let test = self.culled(first, last);
         if let Answer::Told(_) = test {
             let code = self.code;
-            return answer_for(reason::reason_of(&code, first, last));
+            return Answer::from(reason::reason_of(&code, first, last));
         }
         test
     }
@@ -184,7 +187,6 @@ impl State {
     ) -> Answered
         ensures { outcome result (indices.new, runs.new) ≡ draw_means self a b c (material ∷ render_mode ∷ fog_colour ∷ prim_depth ∷ []) (indices.old, runs.old) }
     {
-        let family = decide::family::family_of(self.microcode);
         let row = self.row;
         let ever = self.ever;
         let mut drawn = self.drawn;
@@ -198,33 +200,31 @@ impl State {
             indexlen: indices.len(),
             runlen: runs.len(),
         };
-        let sides = slot::sides_of(family, self.geometry);
+        let sides = slot::sides_of(decide::family::family_of(self.microcode), self.geometry);
         let asked = [material, render_mode, fog_colour, prim_depth];
         let set = run::settings_of(asked, sides.cull, self.microcode);
         let last = run::last_run(runs, m, set);
-        let v = verdict::judge(self.sound(), sides.both, p, q, s, t, last);
-        if let Some(record) = v.unwrap_or(None) {
-            drawn[(a % 256) as usize] = true;
-            drawn[(b % 256) as usize] = true;
-            drawn[(c % 256) as usize] = true;
-            // A triangle is recorded only where each corner has a row.
-            let (x, y, z) = (p.row.unwrap(), q.row.unwrap(), s.row.unwrap());
-            slot::put_corners(indices, n as usize, sides.swap, x, y, z);
-            let recorded = m + record.more;
-            run::put_run(
-                runs,
-                areas::place(RUN_WIDTH, recorded - 1),
-                set,
-                record.start,
-                record.count,
-            );
-            self.counts.indices = n + 3;
-            self.counts.runs = recorded;
-        }
+        let answer = match verdict::judge(self.sound(), sides.both, p, q, s, t, last) {
+            Err(refusal) => Answer::from(refusal),
+            Ok(None) => Answer::Done,
+            Ok(Some(record)) => {
+                drawn[(a % 256) as usize] = true;
+                drawn[(b % 256) as usize] = true;
+                drawn[(c % 256) as usize] = true;
+                let [x, y, z] = record.rows;
+                slot::put_corners(indices, n as usize, sides.swap, x, y, z);
+                let recorded = m + record.more;
+                let at = areas::place(RUN_WIDTH, recorded - 1);
+                run::put_run(runs, at, set, record.start, record.count);
+                self.counts.indices = n + 3;
+                self.counts.runs = recorded;
+                Answer::Done
+            }
+        };
         self.drawn = drawn;
         Answered {
             state: self,
-            answer: answer_of(v),
+            answer: answer,
         }
     }
 }

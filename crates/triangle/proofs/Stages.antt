@@ -1,6 +1,7 @@
 -- A judge in stages: what a test of the code says of the test that a stage is defined by, and how the stage goes by it. Assumes nothing.
 use mathlib.Core.Path.{◌≡◌, refl, sym, ◌∙◌}
 use mathlib.Core.Bool.{Bool, true, false}
+use mathlib.Core.List.{List}
 use Prim.Native.Nat.{ℕ, ◌+◌, ◌≤◌}
 use native.Mathlib.Omega.{arith}
 use lib.Dec.{leb}
@@ -40,14 +41,14 @@ pick_no b v w rest e h = rw e h
 pub ruleset stages = (no, yes, not-true, not-false, unless-no, unless-yes, pick_yes, pick_no)
 
 -- the last run grows, or the triangle gets a run of its own
-pub run-grown : (t : Tables) (last : Option Last) (r : Last) → last ≡ Some r → r.same ≡ true → Ok (record { more = 0; start = r.start; count = r.count + 3 }) ≡ run_for t last
+pub run-grown : (rows : List ℕ) (t : Tables) (last : Option Last) (r : Last) → last ≡ Some r → r.same ≡ true → Ok (record { rows = rows; more = 0; start = r.start; count = r.count + 3 }) ≡ run_for rows t last
 unfolding pick
-run-grown t last r e s = rw (e, s)
+run-grown rows t last r e s = rw (e, s)
 
-pub run-begun : (t : Tables) (last : Option Last) → grows last ≡ false → run_for t last ≡ begun t
+pub run-begun : (rows : List ℕ) (t : Tables) (last : Option Last) → grows last ≡ false → run_for rows t last ≡ begun rows t
 unfolding pick
-run-begun t None e = refl
-run-begun t (Some r) e = rw e
+run-begun rows t None e = refl
+run-begun rows t (Some r) e = rw e
 
 -- a run that is to grow has a count that may grow
 pub grow-fits : (last : Option Last) (r : Last) (n len : ℕ) → last ≡ Some r → closes last n ≡ true → leb (n + 3) (room index_width len) ≡ true → r.count + 3 ≤ most

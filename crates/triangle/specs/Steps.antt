@@ -64,28 +64,28 @@ abbrev pub grows : Option Last → Bool
 grows None = false
 grows (Some last) = last.same
 
--- a run of its own for the triangle: table 9 needs 1
-abbrev pub begun : Tables → Result Record Refusal
-begun t = unless (leb (t.runs + 1) (room run_width t.runlen)) (Err (Full 9)) (Ok (record { more = 1; start = t.indices; count = 3 }))
+-- a run of its own for the triangle of these rows: table 9 needs 1
+abbrev pub begun : List ℕ → Tables → Result Record Refusal
+begun rows t = unless (leb (t.runs + 1) (room run_width t.runlen)) (Err (Full 9)) (Ok (record { rows = rows; more = 1; start = t.indices; count = 3 }))
 
 -- the run of the triangle: the last one grows where it has the settings
-abbrev pub run_for : Tables → Option Last → Result Record Refusal
-run_for t None = begun t
-run_for t (Some last) = pick last.same (Ok (record { more = 0; start = last.start; count = last.count + 3 })) (begun t)
+abbrev pub run_for : List ℕ → Tables → Option Last → Result Record Refusal
+run_for rows t None = begun rows t
+run_for rows t (Some last) = pick last.same (Ok (record { rows = rows; more = 0; start = last.start; count = last.count + 3 })) (begun rows t)
 
 -- the last run, and room for the triangle: table 8 needs 3
-unfoldable pub draw_last : Tables → Option Last → Result Record Refusal
-draw_last t last =
+unfoldable pub draw_last : List ℕ → Tables → Option Last → Result Record Refusal
+draw_last rows t last =
     unless (closes last t.indices) (Err Unsound)
     (unless (leb (t.indices + 3) (room index_width t.indexlen)) (Err (Full 8))
-    (run_for t last))
+    (run_for rows t last))
 
 -- the areas hold what is in use
-unfoldable pub draw_areas : Tables → Option Last → Result Record Refusal
-draw_areas t last =
+unfoldable pub draw_areas : List ℕ → Tables → Option Last → Result Record Refusal
+draw_areas rows t last =
     unless (leb (t.indices + 0) (room index_width t.indexlen)) (Err (Short 8))
     (unless (leb (t.runs + 0) (room run_width t.runlen)) (Err (Short 9))
-    (draw_last t last))
+    (draw_last rows t last))
 
 -- the row of a corner, or the refusal of its slot
 abbrev pub loaded : Corner → Result ℕ Refusal
@@ -103,7 +103,7 @@ draw_slots a b c t last = do
   x ← loaded a
   y ← loaded b
   z ← loaded c
-  unless (ltb x t.rows && ltb y t.rows && ltb z t.rows) (Err Unsound) (draw_areas t last)
+  unless (ltb x t.rows && ltb y t.rows && ltb z t.rows) (Err Unsound) (draw_areas (x ∷ y ∷ z ∷ []) t last)
 
 -- the state's own numbers, and the cull of both sides, which draws nothing
 unfoldable pub draw_judged : Bool → Bool → Corner → Corner → Corner → Tables → Option Last → Result (Option Record) Refusal

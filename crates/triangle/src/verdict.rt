@@ -17,9 +17,11 @@ pub enum Refusal {
     Full(u32),
 }
 
-// A triangle to record: how many runs are appended, 0 or 1, and the start and the count of the last run then.
+// A triangle to record: the rows of its corners, in their order, how many runs are appended, 0 or 1, and the start and the
+// count of the last run then.
 #[derive(Clone, Copy)]
 pub struct Record {
+    pub rows: [u32; 3],
     pub more: u32,
     pub start: u32,
     pub count: u32,
@@ -53,8 +55,8 @@ fn roomy(used: u32, more: u32, width: u32, len: usize) -> bool
 }
 
 // The last run, and room for the triangle.
-fn judge_last(t: Tables, last: Option<Last>) -> Result<Record, Refusal>
-    ensures { result ≡ draw_last t last }
+fn judge_last(rows: [u32; 3], t: Tables, last: Option<Last>) -> Result<Record, Refusal>
+    ensures { result ≡ draw_last rows t last }
 {
     if !ends(last, t.indices) {
         return Err(Refusal::Unsound);
@@ -65,6 +67,7 @@ fn judge_last(t: Tables, last: Option<Last>) -> Result<Record, Refusal>
     if let Some(run) = last {
         if run.same {
             return Ok(Record {
+                rows,
                 more: 0,
                 start: run.start,
                 count: run.count + 3,
@@ -75,6 +78,7 @@ fn judge_last(t: Tables, last: Option<Last>) -> Result<Record, Refusal>
         return Err(Refusal::Full(9));
     }
     Ok(Record {
+        rows,
         more: 1,
         start: t.indices,
         count: 3,
@@ -82,8 +86,8 @@ fn judge_last(t: Tables, last: Option<Last>) -> Result<Record, Refusal>
 }
 
 // The areas hold what is in use.
-fn judge_areas(t: Tables, last: Option<Last>) -> Result<Record, Refusal>
-    ensures { result ≡ draw_areas t last }
+fn judge_areas(rows: [u32; 3], t: Tables, last: Option<Last>) -> Result<Record, Refusal>
+    ensures { result ≡ draw_areas rows t last }
 {
     if !roomy(t.indices, 0, INDEX_WIDTH, t.indexlen) {
         return Err(Refusal::Short(8));
@@ -91,7 +95,7 @@ fn judge_areas(t: Tables, last: Option<Last>) -> Result<Record, Refusal>
     if !roomy(t.runs, 0, RUN_WIDTH, t.runlen) {
         return Err(Refusal::Short(9));
     }
-    judge_last(t, last)
+    judge_last(rows, t, last)
 }
 
 // The row of a corner.
@@ -117,7 +121,7 @@ fn judge_slots(
     if !((x < t.rows) & (y < t.rows) & (z < t.rows)) {
         return Err(Refusal::Unsound);
     }
-    judge_areas(t, last)
+    judge_areas([x, y, z], t, last)
 }
 
 // The state's own numbers are `sound`. Where `both` sides are culled there is nothing to record.

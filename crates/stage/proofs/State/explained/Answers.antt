@@ -7,7 +7,7 @@ use Rattle.stage.proofs.State.explained.Goals as goal
 pub returns-in-Told : goal.returns-in-Told
 returns-in-Told c =
     let a = c.args in
-    reason-told a.self a.first a.last c.culled-test.result c.culled-test.ensures c.in-Told.in-Told-own.keys1 c.answer_for.result c.answer_for.ensures.0 (c.answer_for.ensures.1 ∙ c.reason_of.ensures)
+    reason-told a.self a.first a.last c.culled-test.result c.culled-test.ensures c.in-Told.in-Told-own.keys1 c.from.result c.from.ensures.0 (c.from.ensures.1 ∙ c.reason_of.ensures)
 
 pub returns : goal.returns
 returns c =

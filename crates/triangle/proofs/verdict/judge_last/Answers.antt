@@ -26,10 +26,10 @@ pub returns-then-not-roomy-2 : goal.returns-then-not-roomy-2
 unfolding draw_last
 returns-then-not-roomy-2 c =
     let g : grows c.args.last ≡ false = elim c.match-last.branch [ in-Some+else-run w ↦ rw w.in-Some.is w.if-run.false | in_default w ↦ rw w.in_default.is ] in
-    rw (run-begun c.args.t c.args.last g) (search stages)
+    rw (run-begun c.args.rows c.args.t c.args.last g) (search stages)
 
 pub returns : goal.returns
 unfolding draw_last
 returns c =
     let g : grows c.args.last ≡ false = elim c.match-last.branch [ in-Some+else-run w ↦ rw w.in-Some.is w.if-run.false | in_default w ↦ rw w.in_default.is ] in
-    rw (run-begun c.args.t c.args.last g) (search stages)
+    rw (run-begun c.args.rows c.args.t c.args.last g) (search stages)
