@@ -1,6 +1,6 @@
 -- What private steps of the commands say of themselves. None of it is cited by a command's contract or by a theorem: a reader of the promises need
 -- not read it. Definitions only.
-use Rattle.std.specs.Prelude.{ℕ, ◌+◌, ◌*◌, ◌%◌, ◌≤◌, min, Bool, false, ◌&&◌, ◌≡◌, ◌⊎◌, List, [], ◌∷◌, map, length, get_or, leb, ltb, eqb, ℤ, Float, Option, Some, None, Result, Ok, Err}
+use Rattle.std.specs.Prelude.{ℕ, ◌+◌, ◌*◌, ◌%◌, ◌≤◌, min, Bool, false, ◌&&◌, ◌≡◌, ◌⊎◌, List, [], ◌∷◌, map, length, get_or, leb, ltb, ℤ, Float, Option, Some, None, Result, Ok, Err}
 use Rattle.areas.specs.Area.{room, entries, write}
 use Rattle.areas.specs.Widths.{most, matrix_width, scale_width, light_width, lookat_width, fog_width, float_width, word_width}
 use Rattle.layout.specs.declared.records.Vertex.{Vertex}
