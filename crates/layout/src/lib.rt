@@ -5,7 +5,7 @@
 
 ghost use Rattle.std.specs.Prelude.{◌≡◌, ◌+◌, ◌≤◌, ◌<◌, length};
 ghost use Rattle.numbers.specs.Choice.{pick};
-ghost use Rattle.layout.specs.Layout.{byte_at, half_at, word_at, signed_at, ratio_at, marked_at, entries_at, row_at, matrix_at, exact_at, noes, inexact_at, vertex_at, triple_at, viewport_at, colour_at, axis_at, direction_at, light_at};
+ghost use Rattle.layout.specs.Layout.{half_at, word_at, signed_at, ratio_at, marked_at, entries_at, row_at, matrix_at, exact_at, noes, inexact_at, vertex_at, triple_at, viewport_at, colour_at, axis_at, direction_at, light_at};
 
 use crate::records::{Light, Vertex, Viewport};
 use numbers::entry::Entry;

@@ -1,8 +1,8 @@
 -- What a load settles, from what the code's calls answered. Assumes nothing.
-use mathlib.Core.Path.{◌≡◌, refl, ap}
-use Prim.Native.Nat.{ℕ, ◌+◌}
+use mathlib.Core.Path.{◌≡◌, ap}
+use Prim.Native.Nat.{ℕ}
 use mathlib.Core.Bool.{Bool, true, false, not, ◌&&◌}
-use mathlib.Core.List.{List, [], ◌∷◌}
+use mathlib.Core.List.{List}
 use lib.ListN.{length}
 use lib.IntN.{ℤ}
 use lib.Dec.{ltb, eqb}
@@ -17,12 +17,9 @@ use Rattle.fold.specs.Decision.{refold}
 use Rattle.fold.specs.Fog.{find}
 use Rattle.fold.specs.Scales.{scale_entry, same_scale}
 use Rattle.stage.specs.declared.State.{State}
-use Rattle.stage.specs.declared.Lights.{Lights}
-use Rattle.stage.specs.declared.Lookat.{Lookat}
 use Rattle.stage.specs.Plan.{pick, counted, after}
 use Rattle.stage.specs.Matrices.{model_top}
 use Rattle.stage.specs.Load.{combined_now, fog_pair, settled}
-use Rattle.stage.specs.With.{folded_lights, folded_lookat}
 
 module _ (f : Family) (s : State) (matrices scales : List (List Float)) (fogs : List (List ℤ)) (m e model : List Float) (last same light look lit? foggy? : Bool) (texgen p n : ℕ) where
   pub settled_is : m ≡ combined_now s → e ≡ scale_entry s.texture.sc s.texture.tc → model ≡ laid (model_top s) → lit? ≡ lit f s.geometry
@@ -46,12 +43,6 @@ module _ (f : Family) (s : State) (matrices scales : List (List Float)) (fogs : 
   unfolding settled
   settled_is a b c d x g h i j k l o = rw (i, j, k, l, o, h, a, b, c, d, x, g)
 
--- a count after entries that are appended where b says so
-pub counted_if : {E : Type 0} (b : Bool) (e : E) (n : ℕ) → pick b (n + 1) n ≡ counted (only_if b (e ∷ [])) n
-unfolding pick
-counted_if true e n = refl
-counted_if false e n = refl
-
 -- count and area, as the plan has them
 pub put_count : {A : Type 0} (b : Bool) (w n c : ℕ) (es : List (List A)) (l a : List A) → record { count = c; area = a } ≡ put_by w n (only_if b es) l → c ≡ counted (only_if b es) n
 unfolding pick
@@ -62,14 +53,3 @@ pub put-area : {A : Type 0} (b : Bool) (w n c : ℕ) (es : List (List A)) (l a :
 unfolding pick
 put-area {A} true w n c es l a e = ap (λ (p : Put A). p.area) e
 put-area {A} false w n c es l a e = ap (λ (p : Put A). p.area) e
-
--- where the lights, and the lookat axes, stand then
-pub first_of : (b : Bool) (l : Lights) (m : List Float) (n : ℕ) → pick b n l.first ≡ (pick b (folded_lights l m n) l).first
-unfolding pick
-first_of true l m n = refl
-first_of false l m n = refl
-
-pub place_of : (b : Bool) (l : Lookat) (m : List Float) (n : ℕ) → pick b n l.place ≡ (pick b (folded_lookat l m n) l).place
-unfolding pick
-place_of true l m n = refl
-place_of false l m n = refl

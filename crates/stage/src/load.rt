@@ -228,6 +228,7 @@ impl State {
     }
 
     // What every row of the load shares. Asks for counts in their ranges.
+    #[tactic(auto, unfolding(crate::specs::Load::shared_by, numbers::specs::Choice::pick))]
     fn shared_by(self, d: Settled) -> Shared
         requires { Ranged self d }
         ensures { result ≡ shared_by d self }
@@ -235,24 +236,27 @@ impl State {
         let v = self.viewport;
         let n1 = self.counts.matrices;
         let n3 = self.counts.scales;
-        let matrix = decide::number::if_else(d.newmatrix, n1 + 1, n1).saturating_sub(1);
-        let viewport = self.counts.viewports.saturating_sub(1);
-        let scale = decide::number::if_else(d.newscale, n3 + 1, n3).saturating_sub(1);
-        let first = decide::number::if_else(d.newlights, self.counts.lights, self.lights.first);
-        let place = decide::number::if_else(d.newlookat, self.counts.lookats, self.lookat.place);
-        let light = decide::number::if_else(d.lit, first, 0);
-        let lights = decide::number::if_else(d.lit, self.lights.number + 1, 0);
-        let fog = decide::number::if_else(d.foggy, d.fogat + 1, 0);
-        let lookat = decide::number::if_else(d.texgen == 0, 0, place);
+        let matrices = if d.newmatrix { n1 + 1 } else { n1 };
+        let scales = if d.newscale { n3 + 1 } else { n3 };
+        let first = if d.newlights {
+            self.counts.lights
+        } else {
+            self.lights.first
+        };
+        let place = if d.newlookat {
+            self.counts.lookats
+        } else {
+            self.lookat.place
+        };
         Shared {
-            matrix,
-            viewport,
-            scale,
-            light,
-            lights,
+            matrix: matrices.saturating_sub(1),
+            viewport: self.counts.viewports.saturating_sub(1),
+            scale: scales.saturating_sub(1),
+            light: if d.lit { first } else { 0 },
+            lights: if d.lit { self.lights.number + 1 } else { 0 },
             texgen: d.texgen,
-            fog,
-            lookat,
+            fog: if d.foggy { d.fogat + 1 } else { 0 },
+            lookat: if d.texgen == 0 { 0 } else { place },
             zscale: v[2],
             ztranslation: v[5],
         }

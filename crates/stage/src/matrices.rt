@@ -1,8 +1,7 @@
 // Opening, the matrix stack, the viewport and the geometry mode.
 ghost use Rattle.std.specs.Prelude.{◌≡◌, ◌+◌, ◌≤◌, length, false};
-ghost use Rattle.areas.specs.Widths.{most};
 ghost use Rattle.decide.specs.Family.{family_of};
-ghost use Rattle.stage.specs.Plan.{advance, outcome, carry, nothing, pick, matrix_area, viewport_area, table_in};
+ghost use Rattle.stage.specs.Plan.{advance, outcome, carry, nothing, matrix_area, viewport_area, table_in};
 ghost use Rattle.numbers.specs.Choice.{all};
 ghost use Rattle.stage.specs.With.{with_counts};
 ghost use Rattle.stage.specs.Sound.{count_tests, state_sound};

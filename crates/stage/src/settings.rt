@@ -115,7 +115,7 @@ impl State {
         ensures { outcome result tt ≡ carry nothing (light_plan self slot «data».now at) self tt }
     {
         let ambient = slot == self.lights.number;
-        let need = decide::number::if_else(ambient, 3, 11);
+        let need = if ambient { 3 } else { 11 };
         let answer = match self.reads(data.len(), at, need) {
             Err(refusal) => refusal,
             Ok(()) => {
