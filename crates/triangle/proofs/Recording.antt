@@ -71,8 +71,7 @@ stood c f r e = go c.row e
 -- a run of its own
 own : (rows : List ℕ) (t : Tables) (last : Option Last) (r : Record) → grows last ≡ false → begun rows t ≡ Ok r → (r.rows ≡ rows) × Begun t last r.more r.start r.count
 own rows t last r g e =
-    let w = went _ _ _ r e in
-    (
+    let w = went _ _ _ r e in (
       ap (λ (x : Record). x.rows) (back w.1),
       record { other = g; one = ap (λ (x : Record). x.more) (back w.1); begins = ap (λ (x : Record). x.start) (back w.1); counts = ap (λ (x : Record). x.count) (back w.1); room = leb-true (t.runs + 1) (room run_width t.runlen) w.0 },
     )
@@ -88,8 +87,7 @@ way rows t (Some l) r e = go l.same refl e
   where
     go : (b : Bool) → l.same ≡ b → pick b (Ok (record { rows = rows; more = 0; start = l.start; count = l.count + 3 })) (begun rows t) ≡ Ok r → (r.rows ≡ rows) × (Grown (Some l) r.more r.start r.count ⊎ Begun t (Some l) r.more r.start r.count)
     go true s h =
-        let k : r ≡ record { rows = rows; more = 0; start = l.start; count = l.count + 3 } = cc in
-        (
+        let k : r ≡ record { rows = rows; more = 0; start = l.start; count = l.count + 3 } = cc in (
           ap (λ (x : Record). x.rows) k,
           inl record { run = l; is = refl; same = s; none = ap (λ (x : Record). x.more) k; begins = ap (λ (x : Record). x.start) k; counts = ap (λ (x : Record). x.count) k },
         )
