@@ -39,7 +39,8 @@ pub fn popped_depth(count: u32, depth: u32) -> u32
     depth.saturating_sub(count).max(1)
 }
 
-// The matrix on top of a stack of so many. Asks for a depth of the stack, since every other is refused before it is read.
+// The matrix on top of a stack of so many. Asks for a depth of the stack, since every other is refused before it is read. Written
+// out, as `from_flat` is.
 #[tactic(auto, unfolding(matrix::specs::Math::rows))]
 fn top_of(s: &[f32; 512], depth: u32) -> [[f32; 4]; 4]
     requires { Deep depth }

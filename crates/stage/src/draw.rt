@@ -54,7 +54,7 @@ impl From<Refusal> for Answer {
     }
 }
 
-// The corners of three slots.
+// The corners of three slots. Names, no array: refusal 6 names the first of them.
 #[derive(Clone, Copy)]
 pub struct Corners {
     pub p: Corner,
@@ -83,7 +83,7 @@ fn corners_at(row: &[u32; 256], ever: &[bool; 256], a: u32, b: u32, c: u32) -> C
 }
 
 impl State {
-    // What the cull test answers; the state stays.
+    // What the cull test answers; the state stays. An Answer and no Result: the cull test hands it on as it is.
     fn culled(self, first: u32, last: u32) -> Answer
         ensures { outcome (record { state = self; answer = result }) tt ≡ carry nothing (cull_plan (limit self) self first last) self tt }
     {
