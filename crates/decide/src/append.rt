@@ -11,7 +11,8 @@ ghost use Rattle.decide.specs.Steps.{Ended, ended, Put, put_by};
 use areas::widths::{MATRIX_WIDTH, VIEWPORT_WIDTH};
 
 // Whether the last of `used` entries of `width` numbers compares equal to `entry`. Asks that the entry be as wide as the
-// table's, which every caller's is by its type.
+// table's, which every caller's is by its type. Width, count and entry one by one, here and below: the three are promised of any
+// width, and of a slice as entry.
 pub fn last_is(floats: &[f32], width: u32, used: u32, entry: &[f32]) -> bool
     requires { length entry.now ≡ width }
     ensures { result ≡ matches eq (final (entries width used floats.now)) entry.now }

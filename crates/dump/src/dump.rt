@@ -2,39 +2,56 @@
 use crate::{hash, show, slots, tables};
 use stage::{Counts, State};
 use std::io;
-use trace::rooms::Areas;
 
-// The entries in use of each table.
-fn entries(out: &impl Print, areas: &Areas<'_>, c: Counts) -> io::Result<()> {
-    tables::entries(out, "t1", areas.matrices, 16, c.matrices)?;
-    tables::entries(out, "t2", areas.viewports, 6, c.viewports)?;
-    tables::entries(out, "t3", areas.scales, 4, c.scales)?;
-    tables::entries(out, "t4", areas.lights, 6, c.lights)?;
-    tables::entries(out, "t5", areas.lookats, 6, c.lookats)?;
-    tables::entries(out, "t6", areas.fogs, 2, c.fogs)?;
-    tables::rows(out, areas.floats, areas.words, c.rows)?;
-    tables::entries(out, "t8", areas.indices, 1, c.indices)?;
-    tables::entries(out, "t9", areas.runs, 8, c.runs)
+// The areas of the tables, lent or not; those of table 7 are `floats` and `words`. Not `trace::rooms::Areas`, which is lent for
+// writing: a caller may have these for reading alone.
+#[derive(Clone, Copy)]
+struct Areas<'a> {
+    matrices: &'a [f32],
+    viewports: &'a [f32],
+    scales: &'a [f32],
+    lights: &'a [f32],
+    lookats: &'a [f32],
+    fogs: &'a [i16],
+    floats: &'a [f32],
+    words: &'a [u32],
+    indices: &'a [u32],
+    runs: &'a [u32],
 }
 
-// The hash of each area.
-fn hashes(out: &impl Print, areas: &Areas<'_>) -> io::Result<()> {
-    let hashes = [
-        hash::of(areas.matrices),
-        hash::of(areas.viewports),
-        hash::of(areas.scales),
-        hash::of(areas.lights),
-        hash::of(areas.lookats),
-        hash::of(areas.fogs),
-        hash::of(areas.floats),
-        hash::of(areas.words),
-        hash::of(areas.indices),
-        hash::of(areas.runs),
-    ];
-    for (k, h) in hashes.iter().enumerate() {
-        println!(out; "area {k} {h}")?;
+impl Areas<'_> {
+    // The entries in use of each table.
+    fn tables(&self, out: &impl Print, c: Counts) -> io::Result<()> {
+        tables::entries(out, "t1", self.matrices, 16, c.matrices)?;
+        tables::entries(out, "t2", self.viewports, 6, c.viewports)?;
+        tables::entries(out, "t3", self.scales, 4, c.scales)?;
+        tables::entries(out, "t4", self.lights, 6, c.lights)?;
+        tables::entries(out, "t5", self.lookats, 6, c.lookats)?;
+        tables::entries(out, "t6", self.fogs, 2, c.fogs)?;
+        tables::rows(out, self.floats, self.words, c.rows)?;
+        tables::entries(out, "t8", self.indices, 1, c.indices)?;
+        tables::entries(out, "t9", self.runs, 8, c.runs)
     }
-    Ok(())
+
+    // The hash of each area.
+    fn hashes(&self, out: &impl Print) -> io::Result<()> {
+        let hashes = [
+            hash::of(self.matrices),
+            hash::of(self.viewports),
+            hash::of(self.scales),
+            hash::of(self.lights),
+            hash::of(self.lookats),
+            hash::of(self.fogs),
+            hash::of(self.floats),
+            hash::of(self.words),
+            hash::of(self.indices),
+            hash::of(self.runs),
+        ];
+        for (k, h) in hashes.iter().enumerate() {
+            println!(out; "area {k} {h}")?;
+        }
+        Ok(())
+    }
 }
 
 fn settings(out: &impl Print, s: &State) -> io::Result<()> {
@@ -77,20 +94,45 @@ fn state(out: &impl Print, s: &State) -> io::Result<()> {
 }
 
 // Before the opening there is no state to show, no entry and no slot.
-fn whole(out: &impl Print, s: &State, areas: &Areas<'_>) -> io::Result<()> {
+fn whole(out: &impl Print, s: &State, areas: Areas) -> io::Result<()> {
     println!(out; "end\nopen {}", s.opened as u8)?;
     if s.opened {
         print!(out; "counts")?;
         show::counts(out, s.counts)?;
         println!(out)?;
         state(out, s)?;
-        entries(out, areas, s.counts)?;
+        areas.tables(out, s.counts)?;
         slots::lines(out, s)?;
     }
-    hashes(out, areas)
+    areas.hashes(out)
 }
 
 // Writes the dump.
-pub fn write(out: &impl Print, s: State, areas: &Areas<'_>) -> io::Result<()> {
+pub fn write(
+    out: &impl Print,
+    s: State,
+    matrices: &[f32],
+    viewports: &[f32],
+    scales: &[f32],
+    lights: &[f32],
+    lookats: &[f32],
+    fogs: &[i16],
+    floats: &[f32],
+    words: &[u32],
+    indices: &[u32],
+    runs: &[u32],
+) -> io::Result<()> {
+    let areas = Areas {
+        matrices,
+        viewports,
+        scales,
+        lights,
+        lookats,
+        fogs,
+        floats,
+        words,
+        indices,
+        runs,
+    };
     whole(out, &s, areas)
 }

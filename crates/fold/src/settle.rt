@@ -1,4 +1,5 @@
-// Lights and lookat axes folded into their tables where they are due: the count then. Both ask for a count that does not
+// Lights and lookat axes folded into their tables where they are due: the count then. Two functions: of the lights several entries,
+// of the axes one. Both ask for a count that does not
 // wrap, and for at most seven lights, which the state's judge has seen to. An entry is worked out only where it is due, and
 // `put_if` takes one that is there. The state's own `Lights` stands in a crate above
 // this one, and has what a folding leaves too.

@@ -55,7 +55,7 @@ fn root_of_small(bits: u32) -> u32
     root_of(digits, power)
 }
 
-// The square root of x.
+// The square root of x. `x != x` and no `is_nan`: each function called here is one more to be shown free of wider numbers.
 pub fn sqrt_f32(x: f32) -> f32
     ensures { result ≡ sqrt binary32 x }
 {

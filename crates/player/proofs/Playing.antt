@@ -24,10 +24,6 @@ pub record Left (s : List ℕ) (at : ℕ) (lent : Lengths) (p q : Port) : Type 0
   pub enough : length s ≤ most + at
   pub brings : play_from most s at lent p ≡ q
 
--- before the first op
-pub all_left : (s : List ℕ) (at : ℕ) (lent : Lengths) (p : Port) → Left s at lent p (play_from (length s) s at lent p)
-all_left s at lent p = record { most = length s; enough = omega arith; brings = refl }
-
 module _ (s : List ℕ) (at : ℕ) (lent : Lengths) (p q : Port) where
   -- what is left behind the op c, with n ops more at most
   abbrev behind : ℕ → Call → Port

@@ -52,7 +52,20 @@ fn play(
 fn finish(out: &impl Print, s: &[u8], state: State, areas: &Areas<'_>) -> io::Result<()>
     requires { port_of state (held areas.now) ≡ replayed s.now }
 {
-    dump::dump::write(out, state, areas)
+    dump::dump::write(
+        out,
+        state,
+        areas.matrices,
+        areas.viewports,
+        areas.scales,
+        areas.lights,
+        areas.lookats,
+        areas.fogs,
+        areas.floats,
+        areas.words,
+        areas.indices,
+        areas.runs,
+    )
 }
 
 // Makes the areas, each number 7, runs the script over them, and dumps what is left.

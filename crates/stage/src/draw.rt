@@ -224,7 +224,7 @@ impl State {
         self.drawn = drawn;
         Answered {
             state: self,
-            answer: answer,
+            answer,
         }
     }
 }

@@ -162,7 +162,7 @@ fn lookat_then(lookat: Lookat, due: bool, m: [f32; 16], n: u32) -> Lookat
     l
 }
 
-// The combined matrix in force: an undefined one is recomputed.
+// The combined matrix in force: an undefined one is recomputed. The mark goes beside the matrix, as in the state.
 fn combined_now(
     defined: bool,
     combined: [f32; 16],

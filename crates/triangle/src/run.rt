@@ -26,7 +26,8 @@ pub struct Last {
     pub same: bool,
 }
 
-// The settings of a draw: the caller's four numbers, whether a side is culled, and whether the microcode does not clip.
+// The settings of a draw: the caller's four numbers, whether a side is culled, and whether the microcode, by the number that the
+// state has of it, does not clip.
 pub fn settings_of(asked: [u32; 4], cull: bool, microcode: u8) -> Settings
     ensures { six result ≡ settings asked cull microcode }
 {

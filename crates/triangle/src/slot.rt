@@ -21,7 +21,8 @@ pub struct Sides {
     pub swap: bool,
 }
 
-// The corner at a slot, one of so many, of which the mark and the row are read at its number modulo so many.
+// The corner at a slot, one of so many, of which the mark and the row are read at its number modulo so many: the mark beside
+// the row, as in the state.
 pub fn corner_at(slots: u32, slot: u32, mark: bool, row: u32) -> Corner
     ensures { result ≡ corner_at slots slot mark row }
 {
@@ -45,7 +46,8 @@ pub fn sides_of(f: Family, geometry: u32) -> Sides
 }
 
 // The rows x, y, z from place `at` on, the first and the last exchanged where `swap` says so. Asks for room, which a
-// draw has judged before it writes: a test of each index would cost. Number by number, as a run is.
+// draw has judged before it writes: a test of each index would cost. Three stores: made as an array they would
+// be copied by a call.
 pub fn put_corners(indices: &mut [u32], at: usize, swap: bool, x: u32, y: u32, z: u32)
     requires { at + 3 ≤ length indices.old }
     ensures { indices.new ≡ put indices.old at (corners swap x y z) }

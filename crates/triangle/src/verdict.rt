@@ -17,8 +17,8 @@ pub enum Refusal {
     Full(u32),
 }
 
-// A triangle to record: the rows of its corners, in their order, how many runs are appended, 0 or 1, and the start and the
-// count of the last run then.
+// A triangle to record: the rows of its corners, in their order, how many runs are appended, 0 or 1 and a number since
+// it is added, and the start and the count of the last run then.
 #[derive(Clone, Copy)]
 pub struct Record {
     pub rows: [u32; 3],

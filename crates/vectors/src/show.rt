@@ -1,6 +1,7 @@
 // Writes answers to standard output: a float by its bits in hexadecimal, any NaN as `nan`.
 use std::io;
 
+// A function for each word of the output, here and below.
 pub fn space(out: &impl Print) -> io::Result<()> {
     out.write_all(b" ")
 }
