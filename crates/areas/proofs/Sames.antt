@@ -32,9 +32,9 @@ module _ {A : Type 0} where
   pointwise-is p (x ∷ xs) (y ∷ ys) = rw (pointwise-is p xs ys)
 
   -- the rest of an area begins with an entry
-  pub same-is : (p : A → A → Bool) → IsPartialEquivalence p → (l : List A) (at s : ℕ) (vs : List A) (r : Bool) → s ≡ min at (length l) → r ≡ starts_with p (take (length l - s) (drop s l)) vs
+  pub same_is : (p : A → A → Bool) → IsPartialEquivalence p → (l : List A) (at s : ℕ) (vs : List A) (r : Bool) → s ≡ min at (length l) → r ≡ starts_with p (take (length l - s) (drop s l)) vs
       → r ≡ matches p (part l at (length vs)) vs
-  same-is p e l at s vs r hs h =
+  same_is p e l at s vs r hs h =
       h ∙ rw (take_rest l s, hs, drop_min at l) (pointwise-matches p e (part l at (length vs)) vs)
 
 -- the `==` of numbers with a sign says what eqbℤ says

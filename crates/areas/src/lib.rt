@@ -46,6 +46,7 @@ pub fn copy<T: Copy>(area: &mut [T], from: usize, to: usize, width: usize)
 
 // Whether the numbers from place `at` on are those of `entry`, each by `==`: floats by float comparison, where zeros of either sign
 // are equal and a NaN never is. Where the area ends before the entry does, they are not.
+#[tactic(auto, using(crate::proofs::Sames::same_is))]
 pub fn same<T: PartialEq>(area: &[T], at: usize, entry: &[T]) -> bool
     ensures { result ≡ matches T.eq (part area.now at (length entry.now)) entry.now }
 {

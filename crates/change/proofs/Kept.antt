@@ -12,7 +12,7 @@ use lib.Dec.{eqb}
 use lib.Ieee.{Float}
 use borrow.Author.Tests.{eqb-true, eqb-false, ne_eqb}
 use Rattle.numbers.specs.Choice.{pick}
-use Rattle.areas.specs.Widths.{float_width, word_width, flags_word, scale_word, colour_word, light_word, lights_word, texgen_word, fog_word, lookat_word, s_float, t_float, screen_x, screen_y, screen_z}
+use Rattle.areas.specs.Widths.{float_width, word_width, flags_word, matrix_word, viewport_word, scale_word, colour_word, light_word, lights_word, texgen_word, fog_word, lookat_word, s_float, t_float, screen_x, screen_y, screen_z}
 use Rattle.change.specs.declared.Change.{Change}
 use Rattle.change.specs.declared.Change.TheVariants.{Colour, Texture, Screen, Depth}
 use Rattle.change.specs.Decoded.{floats_after, words_after}
@@ -132,7 +132,14 @@ same-places (Texture s t) u flags i = refl
 same-places (Screen x y) u flags i = refl
 same-places (Depth z own) u flags i = refl
 
--- no change writes a word behind the lookat's
+-- no change writes the numbers of the matrix and of the viewport
+pub entries-unwritten : (c : Change) → (writes_word c matrix_word ≡ false) × (writes_word c viewport_word ≡ false)
+entries-unwritten (Colour w) = (refl, refl)
+entries-unwritten (Texture s t) = (refl, refl)
+entries-unwritten (Screen x y) = (refl, refl)
+entries-unwritten (Depth z own) = (refl, refl)
+
+-- nor a word behind the lookat's
 pub behind-unwritten : (c : Change) (i : ℕ) → lookat_word < i → writes_word c i ≡ false
 behind-unwritten (Colour w) i h =
     rw (ne_eqb i colour_word (λ e. omega arith), ne_eqb i light_word (λ e. omega arith), ne_eqb i lights_word (λ e. omega arith), ne_eqb i fog_word (λ e. omega arith))

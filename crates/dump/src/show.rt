@@ -98,9 +98,15 @@ impl Shown for u32 {
     }
 }
 
+// By its 16 bits, as it is hashed.
 impl Shown for i16 {
     fn show(self, out: &impl Print) -> io::Result<()> {
-        print!(out; " {self}")
+        let bits = self.word();
+        if bits < 32768 {
+            return print!(out; " {bits}");
+        }
+        let size = 65536u32.saturating_sub(bits);
+        print!(out; " -{size}")
     }
 }
 
@@ -239,7 +245,7 @@ pub fn answered(out: &impl Print, i: usize, op: u8, a: Answer, c: Counts) -> io:
     let number = number_of(a);
     print!(out; "{i}{name} {number}")?;
     with_values(a, |values| row(out, values))?;
-    if op == Op::Mark as u8 {
+    if op == Op::Mark.number() {
         counts(out, c)?;
     }
     println!(out)

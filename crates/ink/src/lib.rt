@@ -33,6 +33,6 @@ pub fn count_ink(words: &[u32], rows: u32, indices: &[u32], used: u32, colour: u
 {
     let used = &indices[..used as usize];
     used.iter()
-        .filter(|i| ink_at(words, rows, **i, colour))
-        .count() as u32
+        .map(|i| u32::from(ink_at(words, rows, *i, colour)))
+        .sum()
 }

@@ -24,7 +24,7 @@ fn bits_of(p: [f32; 4]) -> u8
 fn all_finite(p: [f32; 4]) -> bool
     ensures { result ≡ all_finite p }
 {
-    p.iter().all(|x| x.is_finite())
+    p.iter().all(|x| numbers::finite::is_finite_f32(*x))
 }
 
 // None if one of the four numbers is not finite.
@@ -50,6 +50,6 @@ pub fn screen_z(p: [f32; 4], coded: bool, scale: f32, translation: f32) -> Optio
     ensures { result ≡ depth_of p coded scale translation }
 {
     let z = screen(p, scale, translation);
-    let some = coded & (p[3] != 0.0) & z.is_finite();
+    let some = coded & (p[3] != 0.0) & numbers::finite::is_finite_f64(z);
     some.then_some(z)
 }

@@ -5,7 +5,7 @@ pub mod Losses
 pub mod Parts
 pub mod Significant
 pub mod Halves
-pub mod IsFinite
+pub mod Bounded
 pub mod Inverse
 pub mod Root
 pub mod Rooted

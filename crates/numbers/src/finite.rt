@@ -1,20 +1,20 @@
-// Whether a float is finite, and an f32 as an f64. One test for each format, as the library's own methods are: these say it by
-// the logic's word.
+// Whether a float is finite, and an f32 as an f64. By comparison, and not by the library's methods: that of f64 would be one function more
+// with a 64-bit number.
 ghost use Rattle.std.specs.Prelude.{◌≡◌};
 ghost use Rattle.std.specs.Float.Ieee.Scale.{finite};
 
-#[tactic(auto, using(crate::proofs::IsFinite::finite_is))]
 pub fn is_finite_f32(x: f32) -> bool
     ensures { result ≡ finite x }
 {
-    f32::is_finite(x)
+    let top: f32 = 1.0 / 0.0;
+    x < top && -top < x
 }
 
-#[tactic(auto, using(crate::proofs::IsFinite::finite_is))]
 pub fn is_finite_f64(x: f64) -> bool
     ensures { result ≡ finite x }
 {
-    f64::is_finite(x)
+    let top: f64 = 1.0 / 0.0;
+    x < top && -top < x
 }
 
 // The same value in the wider format, a NaN included.

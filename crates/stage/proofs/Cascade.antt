@@ -1,7 +1,7 @@
 -- How a plan goes by its tests: a refusal where one fails, what comes after where it holds. Assumes nothing.
 use mathlib.Core.Path.{◌≡◌, refl, sym, ◌∙◌}
 use Prim.Native.Nat.{ℕ, ◌+◌, ◌≤◌}
-use mathlib.Core.Bool.{Bool, true, false, not}
+use mathlib.Core.Bool.{Bool, true, false, not, ◌&&◌}
 use mathlib.Core.List.{List, []}
 use lib.ListN.{length}
 use lib.Dec.{leb}
@@ -18,6 +18,7 @@ use Rattle.stage.specs.Plan.{Edits, Plan, refuse, does, unless, pick, needs, unt
 use Rattle.stage.specs.Sound.{state_sound, sound}
 use Rattle.stage.specs.With.{with_counts}
 use Rattle.stage.specs.Steps.{reads}
+use Rattle.stage.proofs.Judged.{and_right}
 
 -- `if !f() {` was taken, or left, where f answers b
 pub fails : {r b : Bool} → r ≡ b → not r ≡ true → b ≡ false
@@ -25,6 +26,10 @@ fails {r} e h = sym e ∙ not-true r h
 
 pub holds : {r b : Bool} → r ≡ b → not r ≡ false → b ≡ true
 holds {r} e h = sym e ∙ not-false r h
+
+-- of two tests that both hold the second holds
+pub reached : {d : Bool} (b : Bool) (m len : ℕ) → d ≡ leb m len → b && d ≡ true → m ≤ len
+reached {d} b m len e h = leb-true m len (sym e ∙ and_right b d h)
 
 -- a refusal is what the plan comes to where its test fails
 pub refused : {A : Type 0} (f : Counts → Edits → A → A) (s : State) (l : A) (b : Bool) (p : Plan) (a : Answer) → b ≡ false
@@ -79,8 +84,8 @@ module _ (s : State) (n at : ℕ) (bytes : List ℕ) where
   unfolding reads
   reads-on e = read_by _ _ e
 
-  pub reached : Ok tt ≡ reads s (length bytes) at n → at + n ≤ length bytes
-  reached e = leb-true _ _ (reads-on e).1
+  pub reads-reached : Ok tt ≡ reads s (length bytes) at n → at + n ≤ length bytes
+  reads-reached e = leb-true _ _ (reads-on e).1
 
   -- nothing refuses it, and it is done
   pub reads-done : (s' t : State) → Ok tt ≡ reads s (length bytes) at n → s' ≡ with_counts t s.counts

@@ -36,7 +36,7 @@ fn with_length(l: Lengths, area: u32, n: usize) -> Lengths
 pub fn lent_after(l: Lengths, c: Call) -> Lengths
     ensures { length_list result ≡ lent_after c (length_list l) }
 {
-    if c.op == Op::Lend as u8 {
+    if c.op == Op::Lend.number() {
         with_length(l, c.args.a, c.args.b as usize)
     } else {
         l
@@ -47,7 +47,7 @@ pub fn lent_after(l: Lengths, c: Call) -> Lengths
 fn writes_to(c: Call, area: u32) -> bool
     ensures { result ≡ (eqb c.op 35 && eqb c.args.a area) }
 {
-    c.op == Op::Write as u8 && c.args.a == area
+    c.op == Op::Write.number() && c.args.a == area
 }
 
 // A number written at a place, where it is asked and the place lies in the area.

@@ -1,6 +1,6 @@
 // The ops of the format by their numbers, and what follows each.
 ghost use Rattle.std.specs.Prelude.{◌≡◌};
-ghost use Rattle.trace.specs.Shapes.{Decodes, taking, shape_of};
+ghost use Rattle.trace.specs.Shapes.{number_of, Decodes, taking, shape_of};
 
 // The ops, each with its number.
 #[derive(Clone, Copy, Debug, PartialEq, Eq)]
@@ -87,6 +87,12 @@ fn taking(arguments: u8, bytes: bool) -> Shape
 }
 
 impl Op {
+    pub fn number(self) -> u8
+        ensures { result ≡ number_of self }
+    {
+        self as u8
+    }
+
     // What follows the op.
     pub fn shape(self) -> Shape
         ensures { result ≡ shape_of self }

@@ -5,19 +5,19 @@ use borrow.Author.Tests.{eq-eqb, ne_eqb}
 use borrow.Author.Rules.{rules}
 use Rattle.stage.specs.Plan.{pick}
 use Rattle.stage.proofs.Lighting.{light-plan}
-use Rattle.stage.proofs.Cascade.{picked, left, reached, reads-done, reads-refused}
+use Rattle.stage.proofs.Cascade.{picked, left, reads-reached, reads-done, reads-refused}
 use Rattle.stage.proofs.State.set_light.Goals as goal
 use Rattle.stage.proofs.State.set_light.Goals.{then-ambient, else-ambient, then-ambient-2, else-ambient-2}
 
 pub colour-colour-requires : goal.colour-colour-requires
 colour-colour-requires c =
     let need : c.if-ambient.need ≡ 3 = search rules in
-    rw need at (reached c.args.self c.if-ambient.need c.args.at c.args.«data».now c.in-Ok.ensures)
+    rw need at (reads-reached c.args.self c.if-ambient.need c.args.at c.args.«data».now c.in-Ok.ensures)
 
 pub light-requires : goal.light-requires
 light-requires c =
     let need : c.if-ambient.need ≡ 11 = search rules in
-    rw need at (reached c.args.self c.if-ambient.need c.args.at c.args.«data».now c.in-Ok.ensures)
+    rw need at (reads-reached c.args.self c.if-ambient.need c.args.at c.args.«data».now c.in-Ok.ensures)
 
 pub returns-in-Err : goal.returns-in-Err
 unfolding pick
