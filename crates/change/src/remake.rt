@@ -11,7 +11,8 @@ use crate::judge::{Moved, Refusal, Slot, Tables};
 use crate::row::RowNumber;
 use areas::widths::SCALE_WIDTH;
 
-// The `width` numbers from place `from` on written again from `to` on, where that is another place. Asks for what `areas::copy` asks for.
+// A row of `width` numbers copied from place `from` to `to`, where that is another: copied onto itself, it takes a modify in place twice
+// as long. Asks for what `areas::copy` asks for.
 fn move_row<T: Copy>(area: &mut [T], from: usize, to: usize, width: usize)
     requires { (from + width ≤ length area.old) × (to + width ≤ length area.old) }
     ensures { area.new ≡ put area.old to (part area.old from width) }

@@ -103,10 +103,12 @@ impl Shown for i16 {
     fn show(self, out: &impl Print) -> io::Result<()> {
         let bits = self.word();
         if bits < 32768 {
-            return print!(out; " {bits}");
+            print!(out; " {bits}")
+        } else {
+            // It has 16 bits, so nothing is cut off.
+            let size = 65536u32.saturating_sub(bits);
+            print!(out; " -{size}")
         }
-        let size = 65536u32.saturating_sub(bits);
-        print!(out; " -{size}")
     }
 }
 
