@@ -1,7 +1,7 @@
 // A row written anew with a change: in its place, or in a copy behind all rows in use.
 ghost use Rattle.std.specs.Prelude.{◌≡◌, [], ◌∷◌, ◌+◌, ◌-◌, ◌*◌, ◌≤◌, ltb, length};
 ghost use Rattle.numbers.specs.Choice.{pick};
-ghost use Rattle.areas.specs.Area.{part, put, write};
+ghost use Rattle.areas.specs.Area.{part, write};
 ghost use Rattle.areas.specs.Widths.{scale_width};
 ghost use Rattle.change.specs.Decoded.{unit_entry};
 ghost use Rattle.change.specs.Steps.{InRange, RoomsOf, change_judged, remade};
@@ -10,17 +10,6 @@ use crate::Change;
 use crate::judge::{Moved, Refusal, Slot, Tables};
 use crate::row::RowNumber;
 use areas::widths::SCALE_WIDTH;
-
-// A row of `width` numbers copied from place `from` to `to`, where that is another: copied onto itself, it takes a modify in place twice
-// as long. Asks for what `areas::copy` asks for.
-fn move_row<T: Copy>(area: &mut [T], from: usize, to: usize, width: usize)
-    requires { (from + width ≤ length area.old) × (to + width ≤ length area.old) }
-    ensures { area.new ≡ put area.old to (part area.old from width) }
-{
-    if from != to {
-        areas::copy(area, from, to, width);
-    }
-}
 
 // Row `from`, with the change, written as row `to`, which is the same row or one behind all rows in use; `unit` is the place of the
 // unit scale entry plus 1, or 0 where there is none. Asks for rows that lie in the area, since both have been judged by then.
@@ -31,7 +20,7 @@ fn remake_row<T: RowNumber>(area: &mut [T], from: u32, to: u32, unit: u32, c: Ch
     let width = T::WIDTH as usize;
     let start = areas::place(T::WIDTH, from);
     let at = areas::place(T::WIDTH, to);
-    move_row(area, start, at, width);
+    areas::copy(area, start, at, width);
     T::change(&mut area[at..at + width], c, unit.saturating_sub(1));
 }
 
