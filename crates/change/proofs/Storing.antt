@@ -6,8 +6,8 @@ use mathlib.Core.Bool.{Bool, true, false}
 use mathlib.Core.Logic.{◌≢◌, ◌⊎◌, inl, inr, ⊎_elim}
 use mathlib.Core.Path.{◌≡◌, refl, sym, ◌∙◌}
 use mathlib.Core.List.{List, [], ◌∷◌, ◌++◌, append_assoc}
-use lib.ListN.{length, take, drop, length-drop}
-use lib.Seq.{length-take-le, sets-eq, take_at, take-take, drop_at, paste, length-paste}
+use lib.ListN.{length, take, drop, length-drop, take-append-drop}
+use lib.Seq.{length-take-le, sets-eq, take-add, take_at, take-take, drop_at, paste, length-paste}
 use lib.Dec.{ltb}
 use borrow.Author.Tests.{ltb-true, ltb-false}
 use borrow.Rule.Slice.PartMut.{mid_of, put_mid}
@@ -27,6 +27,14 @@ module _ {A : Type 0} where
   -- a part that lies in the area has all its numbers
   pub part-long : (l : List A) (at n : ℕ) → at + n ≤ length l → length (part l at n) ≡ n
   part-long l at n h = length-take-le n (drop at l) (rw length-drop (omega arith))
+
+  -- a row put in its own place is there
+  pub own-place : (l : List A) (w from to : ℕ) → (from ≤ to) × (to * w + w ≤ length l) → to ≤ from → l ≡ put l (to * w) (part l (from * w) w)
+  unfolding put
+  own-place l w from to h k =
+      let e : from ≡ to = omega arith in
+      let long = part-long l (to * w) w h.1 in
+      rw e (sym (sets-eq (part l (to * w) w) l (to * w) (rw long h.1) ∙ rw (long, ← take-add) (take-append-drop (to * w + w) l)))
 
   -- numbers put at the front stand there
   put-zero : (l vs : List A) → length vs ≤ length l → put l 0 vs ≡ vs ++ drop (length vs) l

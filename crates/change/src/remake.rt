@@ -1,7 +1,7 @@
 // A row written anew with a change: in its place, or in a copy behind all rows in use.
 ghost use Rattle.std.specs.Prelude.{◌≡◌, [], ◌∷◌, ◌+◌, ◌-◌, ◌*◌, ◌≤◌, ltb, length};
 ghost use Rattle.numbers.specs.Choice.{pick};
-ghost use Rattle.areas.specs.Area.{part, write};
+ghost use Rattle.areas.specs.Area.{part, put, write};
 ghost use Rattle.areas.specs.Widths.{scale_width};
 ghost use Rattle.change.specs.Decoded.{unit_entry};
 ghost use Rattle.change.specs.Steps.{InRange, RoomsOf, change_judged, remade};
@@ -11,6 +11,18 @@ use crate::judge::{Moved, Refusal, Slot, Tables};
 use crate::row::RowNumber;
 use areas::widths::SCALE_WIDTH;
 
+// Row `from` written again as row `to`, where that is another row. Asks for what `remake_row` asks for. With the test the copy goes
+// one way alone; without it, or by `!=`, both ways are compiled in, and a caller's loop of modifies copies all of the state each time.
+fn move_row<T: RowNumber>(area: &mut [T], from: u32, to: u32)
+    requires { (from ≤ to) × (to * T.WIDTH + T.WIDTH ≤ length area.old) }
+    ensures { area.new ≡ put area.old (to * T.WIDTH) (part area.old (from * T.WIDTH) T.WIDTH) }
+{
+    if from < to {
+        let start = areas::place(T::WIDTH, from);
+        areas::copy(area, start, areas::place(T::WIDTH, to), T::WIDTH as usize);
+    }
+}
+
 // Row `from`, with the change, written as row `to`, which is the same row or one behind all rows in use; `unit` is the place of the
 // unit scale entry plus 1, or 0 where there is none. Asks for rows that lie in the area, since both have been judged by then.
 fn remake_row<T: RowNumber>(area: &mut [T], from: u32, to: u32, unit: u32, c: Change)
@@ -18,9 +30,8 @@ fn remake_row<T: RowNumber>(area: &mut [T], from: u32, to: u32, unit: u32, c: Ch
     ensures { area.new ≡ write T.WIDTH to (T.after c (unit - 1) (part area.old (from * T.WIDTH) T.WIDTH) ∷ []) area.old }
 {
     let width = T::WIDTH as usize;
-    let start = areas::place(T::WIDTH, from);
     let at = areas::place(T::WIDTH, to);
-    areas::copy(area, start, at, width);
+    move_row(area, from, to);
     T::change(&mut area[at..at + width], c, unit.saturating_sub(1));
 }
 
