@@ -27,7 +27,7 @@ fn ink_at(words: &[u32], rows: u32, i: u32, colour: u32) -> bool
 
 // How many of the first `used` indices are of rows that have the ink. Asks for rows and indices that lie in their areas,
 // as above. A `for`, whose ink test is compiled to a sum: `filter` and `count` jump at it, which takes up to five times as long.
-// It stays a function of its own: within a large caller the loop is short of registers.
+// It stays a function of its own: taken into a large caller, the loop has two instructions more.
 #[inline(never)]
 pub fn count_ink(words: &[u32], rows: u32, indices: &[u32], used: u32, colour: u32) -> u32
     requires { (rows * word_width ≤ length words.now) × (used * index_width ≤ length indices.now) }
